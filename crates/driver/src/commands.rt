@@ -1,0 +1,257 @@
+// The commands: a function for each reads the words of its line, makes one call and spells the answer. A further command is one function more,
+// and one test in `obey`. `space` is where the command word ends. `content` takes the bytes that the line says, `out` is lent to the call, and
+// the answer goes to `answers` from `at` on. It assumes nothing of the line, and that the answer has room: without room it is cut.
+// No rule of the protocol stands here: the limits below are those of the words, as docs/DRIVER.md has them.
+ghost use Prim.Native.Nat.{_≤_, _<_};
+ghost use lib.ListN.{length};
+use crate::text;
+use crate::words;
+use frame::Header;
+use frame::MessageId;
+use frame::Reading;
+use frame::ServiceType;
+use frame::SessionId;
+use frame::Written;
+use sender::Outgoing;
+use words::Parsed;
+
+// The largest number of each kind of word: a flag, 8 bits, 32 bits, the length of an out buffer.
+const FLAG: usize = 1;
+
+const BYTE: usize = 255;
+
+const WIDE: usize = 4294967295;
+
+pub const OUTLEN: usize = 131084;
+
+// Every byte of an out buffer is this before a call, so that CHECK shows which ones the call wrote.
+const UNTOUCHED: u8 = 0xee;
+
+// A number that was read with the limit BYTE keeps its value here, and one with the limit WIDE below.
+fn byte(number: usize) -> u8 {
+    (number % 256) as u8
+}
+
+fn wide(number: usize) -> u32 {
+    (number % 4294967296) as u32
+}
+
+fn fill(out: &mut [u8]) {
+    let mut i: usize = 0;
+    while i < out.len() {
+        out[i] = UNTOUCHED;
+        i += 1;
+    }
+}
+
+// The CHECK of docs/DRIVER.md of a buffer.
+fn check(buffer: &[u8]) -> u64
+    ensures { λ r. ⌜ r < 4294967296 ⌝ }
+{
+    let mut sum: u64 = 7;
+    let mut i: usize = 0;
+    while i < buffer.len() {
+        sum = (sum * 31 + buffer[i] as u64) % 4294967296;
+        i += 1;
+    }
+    sum
+}
+
+fn put_frame(
+    answers: &mut [u8],
+    at: usize,
+    header: Header,
+    payload: &[u8],
+    consumed: usize,
+) -> usize
+    ensures { λ r. ⌜ r ≤ length (now (answers .exit)) ⌝ }
+{
+    let numbers = [
+        header.version as u64,
+        header.flag as u64,
+        header.kind as u64,
+        header.service.0 as u64,
+        header.info as u64,
+        header.session.0 as u64,
+        header.size as u64,
+        header.message.0 as u64,
+        consumed as u64,
+    ];
+    let end = text::put_numbers(answers, at, b"F", &numbers);
+    let start = text::put(answers, end, b" ");
+    text::put_hex(answers, start, payload)
+}
+
+fn put_reading(answers: &mut [u8], at: usize, reading: Reading, input: &[u8]) -> usize
+    ensures { λ r. ⌜ r ≤ length (now (answers .exit)) ⌝ }
+{
+    match reading {
+        Reading::Frame(header, extent) => put_frame(
+            answers,
+            at,
+            header,
+            frame::payload(input, extent),
+            extent.consumed,
+        ),
+        Reading::Refused(number) => text::put_numbers(answers, at, b"R", &[number as u64]),
+        Reading::Short(needed) => text::put_numbers(answers, at, b"S", &[needed as u64]),
+    }
+}
+
+// read HEX
+fn read(line: &[u8], space: usize, content: &mut [u8], answers: &mut [u8], at: usize) -> Parsed {
+    let Parsed::Good(count) = words::hex(line, space, content) else {
+        return Parsed::Bad;
+    };
+    let input = text::front(content, count);
+    Parsed::Good(put_reading(answers, at, frame::read(input), input))
+}
+
+// What a call wrote to `out`: how many bytes, CHECK of the whole of `out`, and the bytes written.
+fn put_written(answers: &mut [u8], at: usize, written: Written, out: &[u8]) -> usize
+    ensures { λ r. ⌜ r ≤ length (now (answers .exit)) ⌝ }
+{
+    match written {
+        Written::Bytes(count) => {
+            let end = text::put_numbers(answers, at, b"B", &[count as u64, check(out)]);
+            let start = text::put(answers, end, b" ");
+            text::put_hex(answers, start, text::front(out, count))
+        }
+        Written::Refused(number) => text::put_numbers(answers, at, b"R", &[number as u64]),
+    }
+}
+
+fn write_frame(
+    answers: &mut [u8],
+    at: usize,
+    header: Header,
+    payload: &[u8],
+    out: &mut [u8],
+) -> usize
+    ensures { λ r. ⌜ r ≤ length (now (answers .exit)) ⌝ }
+{
+    fill(out);
+    let written = frame::write(header, payload, out);
+    put_written(answers, at, written, out)
+}
+
+fn header_of(values: [usize; 9]) -> Header {
+    Header {
+        version: byte(values[0]),
+        flag: values[1] == 1,
+        kind: byte(values[2]),
+        service: ServiceType(byte(values[3])),
+        info: byte(values[4]),
+        session: SessionId(byte(values[5])),
+        size: wide(values[6]),
+        message: MessageId(wide(values[7])),
+    }
+}
+
+// write version flag type service info session size id OUTLEN HEX
+fn write(
+    line: &[u8],
+    space: usize,
+    content: &mut [u8],
+    out: &mut [u8],
+    answers: &mut [u8],
+    at: usize,
+) -> Parsed {
+    let limits = [BYTE, FLAG, BYTE, BYTE, BYTE, BYTE, WIDE, WIDE, OUTLEN];
+    let mut values = [0usize; 9];
+    let Parsed::Good(end) = words::numbers(line, space, &limits, &mut values) else {
+        return Parsed::Bad;
+    };
+    let Parsed::Good(count) = words::hex(line, end, content) else {
+        return Parsed::Bad;
+    };
+    let payload = text::front(content, count);
+    let lent = text::least(values[8], out.len());
+    Parsed::Good(write_frame(answers, at, header_of(values), payload, &mut out[0..lent]))
+}
+
+fn send_frame(
+    answers: &mut [u8],
+    at: usize,
+    outgoing: Outgoing,
+    k: u32,
+    message: &[u8],
+    out: &mut [u8],
+) -> usize
+    ensures { λ r. ⌜ r ≤ length (now (answers .exit)) ⌝ }
+{
+    fill(out);
+    let written = sender::send(outgoing, k, message, out);
+    put_written(answers, at, written, out)
+}
+
+fn outgoing_of(values: [usize; 7]) -> Outgoing {
+    Outgoing {
+        version: byte(values[0]),
+        service: ServiceType(byte(values[1])),
+        session: SessionId(byte(values[2])),
+        message: MessageId(wide(values[3])),
+        chunk: wide(values[4]),
+    }
+}
+
+// send version service session id chunk k OUTLEN HEX
+fn send(
+    line: &[u8],
+    space: usize,
+    content: &mut [u8],
+    out: &mut [u8],
+    answers: &mut [u8],
+    at: usize,
+) -> Parsed {
+    let limits = [BYTE, BYTE, BYTE, WIDE, WIDE, WIDE, OUTLEN];
+    let mut values = [0usize; 7];
+    let Parsed::Good(end) = words::numbers(line, space, &limits, &mut values) else {
+        return Parsed::Bad;
+    };
+    let Parsed::Good(count) = words::hex(line, end, content) else {
+        return Parsed::Bad;
+    };
+    let message = text::front(content, count);
+    let lent = text::least(values[6], out.len());
+    Parsed::Good(send_frame(
+        answers,
+        at,
+        outgoing_of(values),
+        wide(values[5]),
+        message,
+        &mut out[0..lent],
+    ))
+}
+
+// The command that the first word names.
+fn obey(line: &[u8], content: &mut [u8], out: &mut [u8], answers: &mut [u8], at: usize) -> Parsed {
+    let space = words::first_end(line);
+    let name = text::front(line, space);
+    if words::same(name, b"read") {
+        return read(line, space, content, answers, at);
+    }
+    if words::same(name, b"write") {
+        return write(line, space, content, out, answers, at);
+    }
+    if words::same(name, b"send") {
+        return send(line, space, content, out, answers, at);
+    }
+    Parsed::Bad
+}
+
+// The answer to a line, with its newline.
+pub fn answer(
+    line: &[u8],
+    content: &mut [u8],
+    out: &mut [u8],
+    answers: &mut [u8],
+    at: usize,
+) -> usize
+    ensures { λ r. ⌜ r ≤ length (now (answers .exit)) ⌝ }
+{
+    match obey(line, content, out, answers, at) {
+        Parsed::Good(end) => text::put(answers, end, b"\n"),
+        Parsed::Bad => text::put(answers, at, b"?\n"),
+    }
+}

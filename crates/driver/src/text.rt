@@ -1,0 +1,67 @@
+// Answers as text. Each `put` function puts text into a buffer from a position on and answers the position behind it.
+// It assumes nothing: text that does not fit is cut, and the answered position lies within the buffer.
+ghost use Prim.Native.Nat.{_≤_, min};
+ghost use mathlib.Core.Path.{_≡_};
+ghost use lib.ListN.{length};
+use lines::Encoded;
+
+pub fn least(a: usize, b: usize) -> usize
+    ensures { λ r. ⌜ r ≡ min a b ⌝ }
+{
+    if a < b { a } else { b }
+}
+
+// The first bytes of a slice, all of them where it has fewer than asked for.
+pub fn front(whole: &[u8], count: usize) -> &[u8] {
+    let end = least(count, whole.len());
+    &whole[0..end]
+}
+
+pub fn put(buffer: &mut [u8], at: usize, text: &[u8]) -> usize
+    ensures { λ r. ⌜ r ≤ length (now (buffer .exit)) ⌝ }
+{
+    let start = least(at, buffer.len());
+    let count = least(text.len(), buffer.len() - start);
+    let end = start + count;
+    bytes::copy(&text[0..count], &mut buffer[start..end]);
+    end
+}
+
+fn put_decimal(buffer: &mut [u8], at: usize, number: u64) -> usize
+    ensures { λ r. ⌜ r ≤ length (now (buffer .exit)) ⌝ }
+{
+    // the largest number of 64 bits has 20 digits
+    let mut digits = [0u8; 20];
+    match lines::number_to_decimal(number, &mut digits) {
+        Encoded::Chars(count) => put(buffer, at, front(&digits, count)),
+        Encoded::Full => least(at, buffer.len()),
+    }
+}
+
+// A letter, then each number in decimal with a space before it.
+pub fn put_numbers(buffer: &mut [u8], at: usize, letter: &[u8], numbers: &[u64]) -> usize
+    ensures { λ r. ⌜ r ≤ length (now (buffer .exit)) ⌝ }
+{
+    let mut end = put(buffer, at, letter);
+    let mut i: usize = 0;
+    while i < numbers.len() {
+        end = put(buffer, end, b" ");
+        end = put_decimal(buffer, end, numbers[i]);
+        i += 1;
+    }
+    end
+}
+
+// Two digits a byte, `-` for no bytes.
+pub fn put_hex(buffer: &mut [u8], at: usize, content: &[u8]) -> usize
+    ensures { λ r. ⌜ r ≤ length (now (buffer .exit)) ⌝ }
+{
+    if content.len() == 0 {
+        return put(buffer, at, b"-");
+    }
+    let start = least(at, buffer.len());
+    match lines::bytes_to_hex(content, &mut buffer[start..]) {
+        Encoded::Chars(count) => start + least(count, buffer.len() - start),
+        Encoded::Full => start,
+    }
+}

@@ -1,0 +1,5 @@
+pub mod Laws
+pub mod Buffers
+pub mod Answers
+pub mod ThereAndBack
+pub mod Figures

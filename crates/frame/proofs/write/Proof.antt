@@ -1,0 +1,83 @@
+-- `frame::write` meets its contract: each refusal by its tests; at the end the payload stands right behind the header.
+-- Assumes nothing.
+use borrow.Author.Tests.{le-leb, lt-leb, eq-eqb, ne-eqb}
+use mathlib.Core.Path.{sym, _∙_, refl, ap}
+use native.Mathlib.Omega.{arith}
+use Prim.Native.Nat.{_+_}
+use lib.ListN.{length}
+use Rattle.frame.specs.Write.{writeOf, wrote, headerBytes}
+use Rattle.frame.specs.declared.Written.the-variants.{Bytes}
+use Rattle.frame.proofs.Laws.{header-length, header-range, frame-length}
+use Rattle.frame.proofs.Buffers.{payload-put}
+use borrow.Author.Needs.{needs}
+use Rattle.frame.proofs.write.Statement.{statement}
+use Rattle.frame.proofs.write.Tie as tie
+
+fault-requires : tie.Need-fault-requires
+fault-requires c κs = search needs
+
+returns : tie.Need-returns
+unfolding writeOf
+returns c = rw (← (c .before .fault .ensures), ne-eqb _ _ (c .if1 .taken))
+
+cast-if2 : tie.Need-cast-if2
+cast-if2 c = search needs
+
+returns-2 : tie.Need-returns-2
+unfolding writeOf
+returns-2 c = rw (← (c .before .before .before .fault .ensures), eq-eqb _ _ (c .before .before .if1 .left), ne-eqb _ _ (c .if2 .taken))
+
+header-size-requires : tie.Need-header-size-requires
+header-size-requires c κs = search needs
+
+add-end : tie.Need-add-end
+add-end c = omega (arith, (c .header-size .ensures), header-range (c .before .before .before .before .before .before .before .args .header .version))
+
+returns-3 : tie.Need-returns-3
+unfolding writeOf
+returns-3 c = rw (← (c .before .before .before .before .before .fault .ensures), eq-eqb _ _ (c .before .before .before .before .if1 .left), eq-eqb _ _ (c .before .before .if2 .left), frame-length (c .before .before .before .before .before .before .before .before .args .header) (c .before .before .before .before .before .before .before .before .args .payload .now), ← (c .before .header-size .ensures), lt-leb _ _ (c .if3 .taken))
+
+put-header-requires : tie.Need-put-header-requires
+put-header-requires c κs = (sym (c .before .before .before .before .before .before .fault .ensures) ∙ (c .before .before .before .before .before .if1 .left), rw (← (c .before .before .header-size .ensures)) (omega arith))
+
+sub-copy : tie.Need-sub-copy
+sub-copy c = search needs
+
+part-copy-start : tie.Need-part-copy-start
+part-copy-start c = search needs
+
+part-copy-end : tie.Need-part-copy-end
+part-copy-end c = search needs
+
+copy-requires : tie.Need-copy-requires
+copy-requires c κs = search needs
+
+same-length : tie.Need-same-length
+same-length c = search needs
+
+returns-4 : tie.Need-returns-4
+unfolding writeOf
+returns-4 c =
+    let a = (c .before .before .before .before .before .before .before .before .before .before .before .before .before .before .before .before .args) in
+    ap (wrote (Bytes ((c .before .before .before .before .before .before .before .before .before .header-size .result) + length (a .payload .now))))
+    (payload-put (headerBytes (a .header)) (a .payload .now) (a .out .now) _ _ _ (c .before .before .before .before .before .before .before .before .before .header-size .result) (header-length (a .header) ∙ sym (c .before .before .before .before .before .before .before .before .before .header-size .ensures)) (c .before .before .before .before .before .before .before .before .if3 .left) (c .before .before .before .before .before .before .put-header .ensures) (c .before .before .copy .ensures .1) refl)
+    ∙ rw (← (c .before .before .before .before .before .before .before .before .before .before .before .before .before .fault .ensures), eq-eqb _ _ (c .before .before .before .before .before .before .before .before .before .before .before .before .if1 .left), eq-eqb _ _ (c .before .before .before .before .before .before .before .before .before .before .if2 .left), frame-length (a .header) (a .payload .now), ← (c .before .before .before .before .before .before .before .before .before .header-size .ensures), le-leb _ _ (c .before .before .before .before .before .before .before .before .if3 .left))
+
+pub write-spec : {M : Type 1} → statement M
+write-spec =
+    tie.close
+    (tie.spec
+    fault-requires
+    returns
+    cast-if2
+    returns-2
+    header-size-requires
+    add-end
+    returns-3
+    put-header-requires
+    sub-copy
+    part-copy-start
+    part-copy-end
+    copy-requires
+    same-length
+    returns-4)

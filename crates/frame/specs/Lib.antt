@@ -1,0 +1,5 @@
+pub mod Rules
+pub mod Read
+pub mod Write
+pub mod Message
+pub mod Figures

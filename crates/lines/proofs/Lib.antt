@@ -1,0 +1,5 @@
+pub mod Turns
+pub mod Characters
+pub mod Digits
+pub mod Laws
+mod Cases

@@ -1,0 +1,38 @@
+-- `lines::decimal_width` meets its contract. The loop's invariant: the digits passed and those of what is left make those of n, and one more.
+-- Assumes nothing.
+use Prim.Native.Nat.{_+_, _≤_}
+use mathlib.Core.Path.{_≡_}
+use native.Mathlib.Omega.{arith}
+use lib.ListN.{length}
+use Rattle.lines.specs.Decimal.{decimalOf}
+use Rattle.lines.proofs.Digits.{width-one, width-step}
+use borrow.Author.Needs.{needs}
+use Rattle.lines.proofs.decimal_width.Statement.{statement}
+use Rattle.lines.proofs.decimal_width.Tie as tie
+
+abbrev Inv-loop : tie.InvT-loop
+Inv-loop n rest₀ width₀ rest width = (width + length (decimalOf rest) ≡ length (decimalOf n) + 1) × (width + rest ≤ n + 1)
+
+abbrev μ-loop : tie.MeasureT-loop
+μ-loop n rest₀ width₀ rest width = rest
+
+loop-holds : tie.Need-loop-holds Inv-loop μ-loop
+loop-holds c = search needs
+
+add-width : tie.Need-add-width Inv-loop μ-loop
+add-width c = search needs
+
+loop-less : tie.Need-loop-less Inv-loop μ-loop
+loop-less c = search needs
+
+loop-again : tie.Need-loop-again Inv-loop μ-loop
+loop-again c =
+    let r = c .before .loop .rest in
+    omega (arith, width-step r (omega arith))
+
+returns : tie.Need-returns Inv-loop μ-loop
+returns c = omega (arith, width-one (c .before .loop .rest) (omega arith))
+
+pub decimal-width-spec : {M : Type 1} → statement M
+decimal-width-spec =
+    tie.close (tie.spec Inv-loop μ-loop loop-holds add-width loop-less loop-again returns)

@@ -1,0 +1,58 @@
+-- `lines::is_hex` meets its contract. The loop's invariant: what was found and what is left to test say together what the whole text says.
+-- Assumes nothing.
+use Prim.Native.Nat.{_≤_, _-_}
+use mathlib.Core.Path.{_≡_, refl, _∙_}
+use mathlib.Core.Bool.{_&&_}
+use native.Mathlib.Omega.{arith}
+use lib.ListN.{length, drop}
+use Rattle.lines.specs.Text.{every}
+use Rattle.lines.specs.Hex.{isHex}
+use Rattle.lines.proofs.Turns.{every-turn, every-end}
+use borrow.Author.Needs.{needs}
+use Rattle.lines.proofs.is_hex.Statement.{statement}
+use Rattle.lines.proofs.is_hex.Tie as tie
+
+abbrev Inv-loop : tie.InvT-loop
+Inv-loop text all₀ i₀ all i = (i ≤ length text) × ((all && every isHex (drop i text)) ≡ every isHex text)
+
+abbrev μ-loop : tie.MeasureT-loop
+μ-loop text all₀ i₀ all i = length text - i
+
+loop-holds : tie.Need-loop-holds Inv-loop μ-loop
+loop-holds c = (omega arith, refl)
+
+shared-slice-read-is-digit : tie.Need-shared-slice-read-is-digit Inv-loop μ-loop
+shared-slice-read-is-digit c = search needs
+
+is-digit-requires : tie.Need-is-digit-requires Inv-loop μ-loop
+is-digit-requires c κs = search needs
+
+add-i : tie.Need-add-i Inv-loop μ-loop
+add-i c = search needs
+
+loop-less : tie.Need-loop-less Inv-loop μ-loop
+loop-less c = search needs
+
+loop-again : tie.Need-loop-again Inv-loop μ-loop
+loop-again c =
+    let l = c .before .before .before .loop in
+    (omega arith, every-turn isHex (c .before .before .before .before .before .args .text .now) (l .i) (l .all) (c .is-digit .result) (omega arith) (c .is-digit .ensures) ∙ l .inv .1)
+
+returns : tie.Need-returns Inv-loop μ-loop
+returns c =
+    let l = c .before .loop in
+    every-end isHex (c .before .before .before .args .text .now) (l .i) (l .all) (omega arith) ∙ l .inv .1
+
+pub is-hex-spec : {M : Type 1} → statement M
+is-hex-spec =
+    tie.close
+    (tie.spec
+    Inv-loop
+    μ-loop
+    loop-holds
+    shared-slice-read-is-digit
+    is-digit-requires
+    add-i
+    loop-less
+    loop-again
+    returns)

@@ -1,0 +1,168 @@
+// Numbers as bytes, in both orders: most significant first (frame headers), least significant first (BSON).
+// Every public function is total: a read counts only the bytes that are there, a write that does not fit changes nothing.
+ghost use mathlib.Core.Path.{_≡_};
+ghost use Prim.Native.Nat.{_+_, _-_, _^_, _≤_, _<_, min};
+ghost use lib.ListN.{length};
+ghost use lib.Seq.{paste};
+ghost use Rattle.numbers.specs.Bytes.{part, fitsIn, putAt};
+ghost use Rattle.numbers.specs.Numbers.{valueLe, valueBe, bytesLe, bytesBe, Fits};
+
+fn wide(b: u8) -> u64
+    ensures { λ r. ⌜ r ≡ b ⌝ }
+{
+    b as u64
+}
+
+// How many of w bytes from at on are there, in a slice of n bytes.
+fn there(n: usize, at: usize, w: usize) -> usize
+    ensures { λ r. ⌜ r ≡ min w (n - at) ⌝ }
+{
+    if n < at {
+        return 0;
+    }
+    if n - at < w { n - at } else { w }
+}
+
+// The w bytes from at on, least significant first: from the last byte down.
+fn sum_le(s: &[u8], at: usize, w: usize) -> u64
+    requires { ⌜ (w ≤ 8) × (w ≤ length (now s) - at) ⌝ }
+    ensures { λ r. ⌜ Fits w (valueLe (part (now (s .entry)) at w)) r ⌝ }
+{
+    let mut sum: u64 = 0;
+    let mut i = w;
+    while 0 < i {
+        i = i - 1;
+        sum = sum * 256 + wide(s[at + i]);
+    }
+    sum
+}
+
+// The w bytes from at on, most significant first: from the first byte up.
+fn sum_be(s: &[u8], at: usize, w: usize) -> u64
+    requires { ⌜ (w ≤ 8) × (w ≤ length (now s) - at) ⌝ }
+    ensures { λ r. ⌜ Fits w (valueBe (part (now (s .entry)) at w)) r ⌝ }
+{
+    let mut total: u64 = 0;
+    let mut i = 0;
+    while i < w {
+        total = total * 256 + wide(s[at + i]);
+        i = i + 1;
+    }
+    total
+}
+
+// Whether w bytes from at on lie inside n bytes.
+fn fits(n: usize, at: usize, w: usize) -> bool
+    ensures { λ r. ⌜ r ≡ fitsIn n at w ⌝ }
+{
+    if n < at {
+        return false;
+    }
+    w <= n - at
+}
+
+// All w bytes are there as a rule: that way is apart, so that the compiler knows the width of its loop.
+fn read_le(s: &[u8], at: usize, w: usize) -> u64
+    requires { ⌜ w ≤ 8 ⌝ }
+    ensures { λ r. ⌜ Fits w (valueLe (part (now (s .entry)) at w)) r ⌝ }
+{
+    if fits(s.len(), at, w) {
+        return sum_le(s, at, w);
+    }
+    let n = there(s.len(), at, w);
+    sum_le(s, at, n)
+}
+
+fn read_be(s: &[u8], at: usize, w: usize) -> u64
+    requires { ⌜ w ≤ 8 ⌝ }
+    ensures { λ r. ⌜ Fits w (valueBe (part (now (s .entry)) at w)) r ⌝ }
+{
+    if fits(s.len(), at, w) {
+        return sum_be(s, at, w);
+    }
+    let n = there(s.len(), at, w);
+    sum_be(s, at, n)
+}
+
+// Four bytes of a header.
+pub fn be4(s: &[u8], at: usize) -> u32
+    ensures { λ r. ⌜ r ≡ valueBe (part (now (s .entry)) at 4) ⌝ }
+{
+    read_be(s, at, 4) as u32
+}
+
+// BSON's int32, as its 32 bits.
+pub fn le4(s: &[u8], at: usize) -> u32
+    ensures { λ r. ⌜ r ≡ valueLe (part (now (s .entry)) at 4) ⌝ }
+{
+    read_le(s, at, 4) as u32
+}
+
+// BSON's int64, as its 64 bits.
+pub fn le8(s: &[u8], at: usize) -> u64
+    ensures { λ r. ⌜ r ≡ valueLe (part (now (s .entry)) at 8) ⌝ }
+{
+    read_le(s, at, 8)
+}
+
+// The w bytes of x into out from at on, least significant first.
+fn store_le(out: &mut [u8], at: usize, w: usize, x: u64)
+    requires { ⌜ at + w ≤ length (now out) ⌝ }
+    ensures { λ _. ⌜ now (out .exit) ≡ paste (now (out .entry)) at (bytesLe w x) w ⌝ }
+{
+    let mut rest = x;
+    let mut i = 0;
+    while i < w {
+        out[at + i] = (rest % 256) as u8;
+        rest = rest / 256;
+        i += 1;
+    }
+}
+
+// The w bytes of x into out from at on, most significant first: the last byte is written first.
+fn store_be(out: &mut [u8], at: usize, w: usize, x: u64)
+    requires { ⌜ at + w ≤ length (now out) ⌝ }
+    ensures { λ _. ⌜ now (out .exit) ≡ paste (now (out .entry)) at (bytesBe w x) w ⌝ }
+{
+    let mut left = x;
+    let mut i = w;
+    while 0 < i {
+        i = i - 1;
+        out[at + i] = (left % 256) as u8;
+        left = left / 256;
+    }
+}
+
+fn write_le(out: &mut [u8], at: usize, w: usize, x: u64)
+    ensures { λ _. ⌜ now (out .exit) ≡ putAt (now (out .entry)) at w (bytesLe w x) ⌝ }
+{
+    if fits(out.len(), at, w) {
+        store_le(out, at, w, x);
+    }
+}
+
+fn write_be(out: &mut [u8], at: usize, w: usize, x: u64)
+    ensures { λ _. ⌜ now (out .exit) ≡ putAt (now (out .entry)) at w (bytesBe w x) ⌝ }
+{
+    if fits(out.len(), at, w) {
+        store_be(out, at, w, x);
+    }
+}
+
+pub fn put_be4(out: &mut [u8], at: usize, x: u32)
+    ensures { λ _. ⌜ now (out .exit) ≡ putAt (now (out .entry)) at 4 (bytesBe 4 x) ⌝ }
+{
+    write_be(out, at, 4, x as u64);
+}
+
+pub fn put_le4(out: &mut [u8], at: usize, x: u32)
+    ensures { λ _. ⌜ now (out .exit) ≡ putAt (now (out .entry)) at 4 (bytesLe 4 x) ⌝ }
+{
+    write_le(out, at, 4, x as u64);
+}
+
+pub fn put_le8(out: &mut [u8], at: usize, x: u64)
+    ensures { λ _. ⌜ now (out .exit) ≡ putAt (now (out .entry)) at 8 (bytesLe 8 x) ⌝ }
+{
+    write_le(out, at, 8, x);
+}

@@ -1,0 +1,141 @@
+/*
+ * tilambok.h - the frame reader and the frame writers, for C99 and C++.
+ *
+ * The functions are written in Rattle (crates/capture) and proved: for all inputs the result and every lent byte are what
+ * specs/Capture.antt says, no byte outside the lent ones is read or written, and every call ends. This file says the same
+ * in words; it is written by hand and is no part of the proof. Link with libcapture.a (`rt staticlib capture`).
+ *
+ * What the caller owes, since no check can see it:
+ *   - A pointer and the length behind it describe bytes that the caller may read (a `const` pointer) or write (the others)
+ *     for the whole call. A length is at most SIZE_MAX / 2, as that of any object is.
+ *   - No pointer is null, not even where its length is 0: then any pointer that is not null will do.
+ *   - The buffers of one call do not overlap, and no other thread writes to any of them, or reads `fields` or `out`,
+ *     before the call returns.
+ * Nothing else: any bytes, any numbers and any lengths are answered. The functions keep no state, allocate nothing and
+ * may be called from several threads at once.
+ */
+#ifndef TILAMBOK_H
+#define TILAMBOK_H
+
+#include <stddef.h>
+#include <stdint.h>
+
+#ifdef __cplusplus
+extern "C" {
+#endif
+
+/*
+ * A result holds a class in its upper 32 bits and the value that goes with it in its lower 32 bits.
+ *
+ *   class                value
+ *   TILAMBOK_DONE        reader: bytes consumed, header and payload; writers: bytes written
+ *   TILAMBOK_REFUSED     one of the numbers below
+ *   TILAMBOK_SHORT       reader only: how many bytes are needed in all, those that are there included
+ */
+#define TILAMBOK_DONE 0
+#define TILAMBOK_REFUSED 1
+#define TILAMBOK_SHORT 2
+
+static inline uint32_t tilambok_class(uint64_t result) {
+    return (uint32_t)(result >> 32);
+}
+
+static inline uint32_t tilambok_value(uint64_t result) {
+    return (uint32_t)(result & 0xFFFFFFFFu);
+}
+
+/*
+ * Why a call was refused. Where several apply, the lowest of 1 to 6 is given, and 11 only where none of them applies.
+ * A refused call writes nothing.
+ *
+ *   no  given exactly when
+ *    1  the version is 0 or above 5
+ *    2  the frame type is above 3
+ *    3  the service type is none of 00, 07, 0A, 0B, 0F (hexadecimal)
+ *    4  a control frame's info is none of 00 to 09, FD, FE, FF (hexadecimal)
+ *    5  the flag is set in version 1 or on a First Frame
+ *    6  the data size is not 8 in a First Frame, is 0 in a consecutive frame, or is above the version's largest:
+ *       1,488 in versions 1 and 2, 131,072 in 3 to 5; tilambok_write_frame: also where it is not the payload's length
+ *   11  the buffer that is to be written, `fields` or `out`, is too small
+ */
+#define TILAMBOK_BAD_VERSION 1
+#define TILAMBOK_BAD_FRAME_TYPE 2
+#define TILAMBOK_BAD_SERVICE 3
+#define TILAMBOK_BAD_CONTROL_INFO 4
+#define TILAMBOK_BAD_FLAG 5
+#define TILAMBOK_BAD_SIZE 6
+#define TILAMBOK_TOO_SMALL 11
+
+/* Frame types. */
+#define TILAMBOK_CONTROL 0
+#define TILAMBOK_SINGLE 1
+#define TILAMBOK_FIRST 2
+#define TILAMBOK_CONSECUTIVE 3
+
+/*
+ * The fields of a frame that was read: TILAMBOK_FIELDS bytes, each of these at its place. The data size and the message id
+ * are 4 bytes each, most significant first: see tilambok_field_u32.
+ */
+#define TILAMBOK_FIELDS 16
+#define TILAMBOK_AT_VERSION 0        /* 1 to 5 */
+#define TILAMBOK_AT_FLAG 1           /* the encryption flag: 0 clear, 1 set */
+#define TILAMBOK_AT_FRAME_TYPE 2     /* 0 to 3 */
+#define TILAMBOK_AT_SERVICE_TYPE 3
+#define TILAMBOK_AT_FRAME_INFO 4
+#define TILAMBOK_AT_SESSION_ID 5
+#define TILAMBOK_AT_PAYLOAD_START 6  /* how many bytes the header takes: 8 in version 1, else 12 */
+#define TILAMBOK_AT_ZERO 7           /* always 0 */
+#define TILAMBOK_AT_DATA_SIZE 8      /* bytes of payload */
+#define TILAMBOK_AT_MESSAGE_ID 12    /* 0 in version 1, whose header has none */
+
+/* The number whose 4 bytes begin at `field`, as fields + TILAMBOK_AT_DATA_SIZE. */
+static inline uint32_t tilambok_field_u32(const uint8_t *field) {
+    return (uint32_t)field[0] << 24 | (uint32_t)field[1] << 16 | (uint32_t)field[2] << 8 | (uint32_t)field[3];
+}
+
+/*
+ * Reads the frame at the front of `bytes`. What follows it is not looked at.
+ *
+ *   TILAMBOK_SHORT    fewer than 8 bytes are there: the value is 8; or the header, whose first 8 bytes have no fault,
+ *                     and its payload are not all there: the value is header size plus data size.
+ *   TILAMBOK_REFUSED  1 to 6: the first 8 bytes have that fault, whether or not more are there;
+ *                     11: a whole frame is there, and fields_length is below TILAMBOK_FIELDS.
+ *   TILAMBOK_DONE     the first TILAMBOK_FIELDS bytes of `fields` say what the frame is. Its payload is `bytes` from
+ *                     fields[TILAMBOK_AT_PAYLOAD_START] on, as long as the data size says; the value is where it ends.
+ *
+ * `bytes` is only read. `fields` past its first TILAMBOK_FIELDS bytes is left as it is, and all of it where the class is
+ * not TILAMBOK_DONE.
+ */
+uint64_t tilambok_read_frame(const uint8_t *bytes, size_t bytes_length, uint8_t *fields, size_t fields_length);
+
+/*
+ * Writes a frame's header alone to the front of `out`: 8 bytes in version 1, else 12. `flag` is clear where it is 0 and
+ * set where it is anything else. In version 1 `message` is not looked at: the header has no message id.
+ *
+ *   TILAMBOK_REFUSED  1 to 6: the header has that fault; 11: out_length is below the header's size.
+ *   TILAMBOK_DONE     the value is the header's size.
+ *
+ * `out` past the bytes written is left as it is, and all of it where the call is refused.
+ */
+uint64_t tilambok_write_header(uint8_t version, uint8_t flag, uint8_t frame_type, uint8_t service_type, uint8_t frame_info,
+                               uint8_t session_id, uint32_t data_size, uint32_t message_id, uint8_t *out,
+                               size_t out_length);
+
+/*
+ * Writes a frame, header and payload, to the front of `out`. The header's numbers are as in tilambok_write_header.
+ *
+ *   TILAMBOK_REFUSED  1 to 6: the header has that fault; 6 also where data_size is not payload_length;
+ *                     11: out_length is below header size plus payload_length.
+ *   TILAMBOK_DONE     the value is header size plus payload_length.
+ *
+ * `payload` is only read. `out` past the bytes written is left as it is, and all of it where the call is refused.
+ */
+uint64_t tilambok_write_frame(uint8_t version, uint8_t flag, uint8_t frame_type, uint8_t service_type, uint8_t frame_info,
+                              uint8_t session_id, uint32_t data_size, uint32_t message_id, const uint8_t *payload,
+                              size_t payload_length, uint8_t *out, size_t out_length);
+
+#ifdef __cplusplus
+}
+#endif
+
+#endif

@@ -1,0 +1,35 @@
+//! Prints a script: `generate [--frames] SEED LINES`.
+
+use std::io::{self, BufWriter};
+use std::process::ExitCode;
+
+use reference::generate::{write_script, Form};
+
+const USAGE: &str = "usage: generate [--frames] SEED LINES";
+
+fn main() -> ExitCode {
+    let Some((form, seed, lines)) = arguments() else {
+        eprintln!("{USAGE}");
+        return ExitCode::from(2);
+    };
+    let out = BufWriter::with_capacity(1 << 16, io::stdout().lock());
+    match write_script(form, seed, lines, out) {
+        Ok(()) => ExitCode::SUCCESS,
+        // Whoever reads the script has seen enough.
+        Err(error) if error.kind() == io::ErrorKind::BrokenPipe => ExitCode::SUCCESS,
+        Err(error) => {
+            eprintln!("generate: {error}");
+            ExitCode::FAILURE
+        }
+    }
+}
+
+fn arguments() -> Option<(Form, u64, u64)> {
+    let words: Vec<String> = std::env::args().skip(1).collect();
+    let (form, numbers) = match words.as_slice() {
+        [option, numbers @ ..] if option == "--frames" => (Form::Frames, numbers),
+        numbers => (Form::All, numbers),
+    };
+    let [seed, lines] = numbers else { return None };
+    Some((form, seed.parse().ok()?, lines.parse().ok()?))
+}

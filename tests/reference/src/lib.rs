@@ -1,0 +1,18 @@
+//! The reference: document 01's rules in plain Rust, and the line protocol
+//! of DRIVER.md over them.
+//!
+//! It was written from those two documents alone, so that a comparison with
+//! the other program means something. Keep it that way: extend it from the
+//! documents, never from the other program's text.
+//!
+//! - [`frame`], [`sender`], [`refusal`]: the rules of the protocol.
+//! - [`text`]: hexadecimal and decimal words.
+//! - [`driver`]: script lines in, answer lines out.
+//! - [`generate`]: scripts to compare two programs on.
+
+pub mod driver;
+pub mod frame;
+pub mod generate;
+pub mod refusal;
+pub mod sender;
+pub mod text;

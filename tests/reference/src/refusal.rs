@@ -1,0 +1,36 @@
+//! The numbers of document 01's table "Answer numbers" that refuse a call.
+
+/// A refusal. The comments quote the table's "Given exactly when".
+#[derive(Clone, Copy, Debug, PartialEq, Eq)]
+#[repr(u8)]
+pub enum Refusal {
+    /// "version 0 or above 5"
+    Version = 1,
+    /// "frame type above 3"
+    FrameType = 2,
+    /// "service not listed"
+    Service = 3,
+    /// "control info not listed"
+    ControlInfo = 4,
+    /// "flag set in version 1 or on a First Frame"
+    Flag = 5,
+    /// "First Frame size not 8, consecutive size 0, or above the largest";
+    /// the writer also "refuses a data size unlike the payload's length with 6".
+    Size = 6,
+    /// "settings, offer or chunk (0 or above largest) out of range"
+    OutOfRange = 10,
+    /// "too small for the bytes due"
+    OutTooSmall = 11,
+    /// "total 0 or above 65,536, count 0, above 256 or above total;
+    /// sender: likewise, if more than one chunk"
+    TotalOrCount = 18,
+    /// "sender: k past the last frame"
+    PastLastFrame = 26,
+}
+
+impl Refusal {
+    /// The number in the table.
+    pub fn number(self) -> u8 {
+        self as u8
+    }
+}
