@@ -99,35 +99,40 @@ fn write_proved(h: &Header, payload: &[u8], out: &mut [u8]) -> u64 {
     }
 }
 
-/// The least time of a call, in nanoseconds, of each of several ways to do the same work, timed in turn.
-fn least_times(calls: usize, ways: &mut [&mut dyn FnMut(usize)]) -> Vec<f64> {
+/// The least time of a call, in nanoseconds, of each of several ways to do the same work, timed in turn. A way goes once over all
+/// frames each time it is called, so that nothing but the calls is timed.
+fn least_times(frames: &Frames, ways: &mut [&mut dyn FnMut()]) -> Vec<f64> {
+    let count = frames.headers.len();
+    let turns = ((BYTES_A_ROUND / frames.size).clamp(1_000, MOST_CALLS) / count).max(1);
     let mut least = vec![f64::INFINITY; ways.len()];
     for _ in 0..ROUNDS {
         for (way, best) in ways.iter_mut().zip(least.iter_mut()) {
             let start = Instant::now();
-            for i in 0..calls {
-                way(i);
+            for _ in 0..turns {
+                way();
             }
-            *best = best.min(start.elapsed().as_nanos() as f64 / calls as f64);
+            *best = best.min(start.elapsed().as_nanos() as f64 / (turns * count) as f64);
         }
     }
     least
 }
 
 fn measure_reading(frames: &Frames) {
-    let count = frames.headers.len();
-    let calls = (BYTES_A_ROUND / frames.size).clamp(1_000, MOST_CALLS);
-    let at = |i: usize| &frames.bytes[(i % count) * frames.size..][..frames.size];
     let mut fields = [0u8; 16];
     let least = least_times(
-        calls,
+        frames,
         &mut [
-            &mut |i| {
-                black_box(read_proved(black_box(at(i)), &mut fields));
-                black_box(&fields);
+            &mut || {
+                for bytes in frames.bytes.chunks_exact(frames.size) {
+                    black_box(read_proved(black_box(bytes), &mut fields));
+                    black_box(&fields);
+                }
             },
-            &mut |i| {
-                black_box(read_reference(black_box(at(i))));
+            &mut || {
+                for bytes in frames.bytes.chunks_exact(frames.size) {
+                    let reading = read_reference(black_box(bytes));
+                    black_box(&reading);
+                }
             },
         ],
     );
@@ -141,25 +146,29 @@ fn measure_reading(frames: &Frames) {
 }
 
 fn measure_writing(frames: &Frames) {
-    let count = frames.headers.len();
-    let calls = (BYTES_A_ROUND / frames.size).clamp(1_000, MOST_CALLS);
     let payload = frames.bytes[HEADER..frames.size].to_vec();
     let mut out = [vec![0u8; frames.size], vec![0u8; frames.size], vec![0u8; frames.size]];
     let [first, second, third] = &mut out;
     let least = least_times(
-        calls,
+        frames,
         &mut [
-            &mut |i| {
-                black_box(write_proved(&frames.headers[i % count], black_box(&payload), first));
-                black_box(&first);
+            &mut || {
+                for header in &frames.headers {
+                    black_box(write_proved(header, black_box(&payload), first));
+                    black_box(&first);
+                }
             },
-            &mut |i| {
-                black_box(write_reference(&frames.headers[i % count], black_box(&payload), second));
-                black_box(&second);
+            &mut || {
+                for header in &frames.headers {
+                    black_box(write_reference(header, black_box(&payload), second));
+                    black_box(&second);
+                }
             },
-            &mut |i| {
-                third[HEADER..].copy_from_slice(black_box(&payload));
-                black_box((i, &third));
+            &mut || {
+                for header in &frames.headers {
+                    third[HEADER..].copy_from_slice(black_box(&payload));
+                    black_box((header, &third));
+                }
             },
         ],
     );
