@@ -12,6 +12,9 @@ use frame::Reading;
 use frame::ServiceType;
 use frame::SessionId;
 use frame::Written;
+use payload::Payload;
+use payload::StringTag;
+use payload::Tags;
 use sender::Outgoing;
 use words::Parsed;
 
@@ -224,6 +227,64 @@ fn send(
     ))
 }
 
+// A name and a tag's number, or `-` where it is absent.
+fn put_number(answers: &mut [u8], at: usize, name: &[u8], found: bool, value: u64) -> usize
+    ensures { λ r. ⌜ r ≤ length (now (answers .exit)) ⌝ }
+{
+    let end = text::put(answers, at, name);
+    if found {
+        return text::put_decimal(answers, end, value);
+    }
+    text::put(answers, end, b"-")
+}
+
+// The version string's bytes, which may be none, or `-` where it is absent.
+fn put_version(answers: &mut [u8], at: usize, version: StringTag, input: &[u8]) -> usize
+    ensures { λ r. ⌜ r ≤ length (now (answers .exit)) ⌝ }
+{
+    let end = text::put(answers, at, b"T version=");
+    if version.found {
+        return text::put_digits(answers, end, text::part(input, version.at, version.length));
+    }
+    text::put(answers, end, b"-")
+}
+
+fn put_tags(answers: &mut [u8], at: usize, tags: Tags, input: &[u8]) -> usize
+    ensures { λ r. ⌜ r ≤ length (now (answers .exit)) ⌝ }
+{
+    let version = tags.version;
+    let hash = tags.hash;
+    let mtu = tags.mtu;
+    let mut end = put_version(answers, at, version, input);
+    end = put_number(answers, end, b" hash=", hash.found, hash.value as u64);
+    end = put_number(answers, end, b" mtu=", mtu.found, mtu.value);
+    put_number(answers, end, b" rejected=", tags.rejected, 1)
+}
+
+fn put_payload(answers: &mut [u8], at: usize, payload: Payload, input: &[u8]) -> usize
+    ensures { λ r. ⌜ r ≤ length (now (answers .exit)) ⌝ }
+{
+    match payload {
+        Payload::Accepted(tags) => put_tags(answers, at, tags, input),
+        Payload::Refused(number) => text::put_numbers(answers, at, b"R", &[number as u64]),
+    }
+}
+
+// payload HEX
+fn read_payload(
+    line: &[u8],
+    space: usize,
+    content: &mut [u8],
+    answers: &mut [u8],
+    at: usize,
+) -> Parsed {
+    let Parsed::Good(count) = words::hex(line, space, content) else {
+        return Parsed::Bad;
+    };
+    let input = text::front(content, count);
+    Parsed::Good(put_payload(answers, at, payload::read(input), input))
+}
+
 // The command that the first word names.
 fn obey(line: &[u8], content: &mut [u8], out: &mut [u8], answers: &mut [u8], at: usize) -> Parsed {
     let space = words::first_end(line);
@@ -236,6 +297,9 @@ fn obey(line: &[u8], content: &mut [u8], out: &mut [u8], answers: &mut [u8], at:
     }
     if words::same(name, b"send") {
         return send(line, space, content, out, answers, at);
+    }
+    if words::same(name, b"payload") {
+        return read_payload(line, space, content, answers, at);
     }
     Parsed::Bad
 }

@@ -17,6 +17,13 @@ pub fn front(whole: &[u8], count: usize) -> &[u8] {
     &whole[0..end]
 }
 
+// So many bytes of a slice from a place on, as far as it has them.
+pub fn part(whole: &[u8], at: usize, count: usize) -> &[u8] {
+    let start = least(at, whole.len());
+    let end = start + least(count, whole.len() - start);
+    &whole[start..end]
+}
+
 pub fn put(buffer: &mut [u8], at: usize, text: &[u8]) -> usize
     ensures { λ r. ⌜ r ≤ length (now (buffer .exit)) ⌝ }
 {
@@ -27,7 +34,7 @@ pub fn put(buffer: &mut [u8], at: usize, text: &[u8]) -> usize
     end
 }
 
-fn put_decimal(buffer: &mut [u8], at: usize, number: u64) -> usize
+pub fn put_decimal(buffer: &mut [u8], at: usize, number: u64) -> usize
     ensures { λ r. ⌜ r ≤ length (now (buffer .exit)) ⌝ }
 {
     // the largest number of 64 bits has 20 digits
@@ -52,16 +59,23 @@ pub fn put_numbers(buffer: &mut [u8], at: usize, letter: &[u8], numbers: &[u64])
     end
 }
 
-// Two digits a byte, `-` for no bytes.
+// Two digits a byte.
+pub fn put_digits(buffer: &mut [u8], at: usize, content: &[u8]) -> usize
+    ensures { λ r. ⌜ r ≤ length (now (buffer .exit)) ⌝ }
+{
+    let start = least(at, buffer.len());
+    match lines::bytes_to_hex(content, &mut buffer[start..]) {
+        Encoded::Chars(count) => start + least(count, buffer.len() - start),
+        Encoded::Full => start,
+    }
+}
+
+// The same, `-` for no bytes.
 pub fn put_hex(buffer: &mut [u8], at: usize, content: &[u8]) -> usize
     ensures { λ r. ⌜ r ≤ length (now (buffer .exit)) ⌝ }
 {
     if content.len() == 0 {
         return put(buffer, at, b"-");
     }
-    let start = least(at, buffer.len());
-    match lines::bytes_to_hex(content, &mut buffer[start..]) {
-        Encoded::Chars(count) => start + least(count, buffer.len() - start),
-        Encoded::Full => start,
-    }
+    put_digits(buffer, at, content)
 }

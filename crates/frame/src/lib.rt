@@ -288,7 +288,7 @@ pub fn write(header: Header, payload: &[u8], out: &mut [u8]) -> Written
 }
 
 // The frame number of the consecutive frame at a place, from 1 to count.
-pub fn frame_number(place: u32, count: u32) -> u32
+pub fn frame_number(place: usize, count: usize) -> usize
     ensures { λ r. ⌜ r ≡ frameNumber place count ⌝ }
 {
     if place == count { 0 } else { place }

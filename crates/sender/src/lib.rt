@@ -87,7 +87,7 @@ fn put_next(outgoing: Outgoing, place: u32, count: u32, message: &[u8], out: &mu
     requires { ⌜ (1 ≤ place) × (place ≤ count) × (1 ≤ length (now message)) ⌝ }
     ensures { λ r. ⌜ wrote r (now (out .exit)) ≡ putOf (bytesOf (nextOf outgoing (now (message .entry)) place)) (now (out .entry)) ⌝ }
 {
-    let number = frame::frame_number(place, count);
+    let number = frame::frame_number(place as usize, count as usize);
     let chunk = outgoing.chunk as usize;
     let start = (place - 1) as usize * chunk;
     let end = least(start + chunk, message.len());

@@ -5,7 +5,7 @@
 //! the other program means something. Keep it that way: extend it from the
 //! documents, never from the other program's text.
 //!
-//! - [`frame`], [`sender`], [`refusal`]: the rules of the protocol.
+//! - [`frame`], [`sender`], [`payload`], [`refusal`]: the rules of the protocol.
 //! - [`text`]: hexadecimal and decimal words.
 //! - [`driver`]: script lines in, answer lines out.
 //! - [`generate`]: scripts to compare two programs on.
@@ -13,6 +13,7 @@
 pub mod driver;
 pub mod frame;
 pub mod generate;
+pub mod payload;
 pub mod refusal;
 pub mod sender;
 pub mod text;

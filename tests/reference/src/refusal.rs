@@ -26,6 +26,19 @@ pub enum Refusal {
     TotalOrCount = 18,
     /// "sender: k past the last frame"
     PastLastFrame = 26,
+    /// "document length not the lent length, or not 5 to 1,024"
+    DocumentLength = 30,
+    /// "type not read"
+    TypeNotRead = 31,
+    /// "key, value or nested document runs past its document; string length 0
+    /// or its last byte not 0; nested length under 5; a 0 in a type's place
+    /// before its document's last byte, or the document used up without one;
+    /// boolean not 0 or 1"
+    Malformed = 32,
+    /// "depth 9, judged before its length"
+    TooDeep = 33,
+    /// "known tag twice or of another type"
+    KnownTag = 34,
 }
 
 impl Refusal {

@@ -59,6 +59,36 @@ fn writing_is_answered() {
 }
 
 #[test]
+fn payloads_are_answered() {
+    let none = "T version=- hash=- mtu=- rejected=-";
+    check("payload -", none);
+    check("payload 0500000000", none);
+    check("payload 00", "R 30");
+    check("payload 0600000000", "R 30");
+    check("payload 050000000f", "R 31");
+    check("payload 0500000001", "R 32");
+    check("payload 0a0000000a6d74750000", "R 34");
+    check(
+        "payload 200000000270726f746f636f6c56657273696f6e0006000000352e342e310000",
+        "T version=352e342e31 hash=- mtu=- rejected=-",
+    );
+    // A version of no bytes is not an absent one.
+    check(
+        "payload 1b0000000270726f746f636f6c56657273696f6e00010000000000",
+        "T version= hash=- mtu=- rejected=-",
+    );
+    check(
+        "payload 390000001068617368496400ffffffff126d747500ffffffffffffffff\
+         0270726f746f636f6c56657273696f6e0006000000352e0034000000",
+        "T version=352e003400 hash=4294967295 mtu=18446744073709551615 rejected=-",
+    );
+    check(
+        "payload 1a0000000472656a6563746564506172616d7300050000000000",
+        "T version=- hash=- mtu=- rejected=1",
+    );
+}
+
+#[test]
 fn what_cannot_be_read_is_answered_with_a_question_mark() {
     for line in [
         "read",
@@ -76,7 +106,10 @@ fn what_cannot_be_read_is_answered_with_a_question_mark() {
         "reads 00",
         "READ 00",
         "read\t00",
-        "payload -",
+        "payload",
+        "payload 0",
+        "payload 00 00",
+        "payload - -",
         "new 5 4 1 1500",
         "call 1 1 1 128 -",
         "write 1 2 1 7 0 1 1 7 10 aa",
@@ -121,7 +154,7 @@ fn lines_are_read_up_to_300000_bytes() {
 
 #[test]
 fn scripts_depend_on_the_seed_alone() {
-    for form in [Form::All, Form::Frames] {
+    for form in [Form::All, Form::Frames, Form::Payloads] {
         let long = script(form, 7, 2_000);
         assert_eq!(long, script(form, 7, 2_000));
         assert_ne!(long, script(form, 8, 2_000));
@@ -158,6 +191,7 @@ fn scripts_reach_every_answer() {
         ("read", "F,S,R 1,R 2,R 3,R 4,R 5,R 6,?"),
         ("write", "B,R 1,R 2,R 3,R 4,R 5,R 6,R 11,?"),
         ("send", "B,R 1,R 3,R 10,R 11,R 18,R 26,?"),
+        ("payload", "T,R 30,R 31,R 32,R 33,R 34,?"),
     ] {
         for answer in answers.split(',') {
             let times = kinds.get(&(command.into(), answer.into()));
@@ -177,4 +211,36 @@ fn frame_scripts_are_readable() {
         assert!(last || command == "read" || command == "write", "{command}");
         assert_ne!(answer, "?");
     }
+}
+
+#[test]
+fn payload_scripts_reach_every_answer_often() {
+    let script = script(Form::Payloads, 1, 20_000);
+    assert!(script.starts_with(b"payload "));
+    let kinds = kinds(&script);
+    // The last is the empty line behind the last newline.
+    assert_eq!(kinds.len(), 7, "{kinds:?}");
+    for answer in ["T", "R 30", "R 31", "R 32", "R 33", "R 34"] {
+        let times = kinds[&("payload".into(), answer.into())];
+        assert!(times > 400, "{answer}: {times}");
+    }
+}
+
+/// Which tags there are in an answer `T ...`.
+fn tags_there(answer: &str) -> Option<Vec<bool>> {
+    let tags = answer.strip_prefix("T ")?.split(' ');
+    Some(tags.map(|tag| !tag.ends_with("=-")).collect())
+}
+
+#[test]
+fn payload_scripts_reach_every_set_of_tags() {
+    let answers = answers(&script(Form::Payloads, 1, 20_000));
+    let mut times = BTreeMap::new();
+    for answer in String::from_utf8(answers).unwrap().lines() {
+        if let Some(tags) = tags_there(answer) {
+            *times.entry(tags).or_insert(0) += 1;
+        }
+    }
+    assert_eq!(times.len(), 16);
+    assert!(times.values().all(|&times| times > 80), "{times:?}");
 }

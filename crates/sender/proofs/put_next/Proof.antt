@@ -1,32 +1,43 @@
--- `sender::put_next` meets its contract: the chunk starts inside the message, and is cut at its end.
--- Assumes nothing.
-use mathlib.Core.Path.{_≡_, _∙_, ap}
+use borrow.Author.Tests.{le-leb, lt-leb, eq-eqb, ne-eqb, not-true, not-false}
+use mathlib.Core.Path.{_≡_, sym, _∙_, refl, ap, subst}
 use native.Mathlib.Omega.{arith}
-use Prim.Native.Nat.{ℕ, _-_, _*_, _<_}
-use mathlib.Core.List.{List}
+use Prim.Native.Nat.{ℕ, _+_, _-_, _*_, _/_, _≤_, _<_}
+use mathlib.Core.List.{List, _++_}
 use lib.ListN.{length}
+use Rattle.numbers.specs.Bytes.{part}
+use Rattle.frame.specs.Rules.{faultOf}
 use Rattle.frame.specs.Message.{frameNumber}
 use Rattle.frame.specs.Write.{putOf}
 use Rattle.frame.proofs.Laws.{largest-range}
-use Rattle.sender.specs.Sender.{plan, bytesOf, chunkOf, countOf}
+use Rattle.sender.specs.Sender.{headerFor, plan, bytesOf, chunkOf, countOf}
 use Rattle.sender.proofs.Counts.{chunk-range, starts, chunk-cut, some-chunk, number-byte}
 use Rattle.sender.proofs.Laws.{next-fault}
 use borrow.Author.Needs.{needs}
 use Rattle.sender.proofs.put_next.Statement.{statement}
 use Rattle.sender.proofs.put_next.Tie as tie
+use Rattle.sender.proofs.put_next.Reads as reads
+use Rattle.sender.proofs.put_next.Lts as lts
+use Rattle.frame.proofs.frame_number.Reads as frame-number-reads
+use Rattle.sender.proofs.least.Reads as least-reads
+use Rattle.sender.proofs.put.Reads as put-reads
 
+-- src/lib.rt:90:9
 frame-number-requires : tie.Need-frame-number-requires
 frame-number-requires c κs = search needs
 
+-- src/lib.rt:91:17
 cast-chunk : tie.Need-cast-chunk
 cast-chunk c = search needs
 
+-- src/lib.rt:92:18
 sub-start : tie.Need-sub-start
 sub-start c = search needs
 
+-- src/lib.rt:92:17
 cast-start : tie.Need-cast-start
 cast-start c = search needs
 
+-- src/lib.rt:92:17
 mul-start : tie.Need-mul-start
 mul-start c =
     let a = (c .before .before .before .before .args) in
@@ -36,6 +47,7 @@ mul-start c =
     let s : (a .place - 1) * o .chunk < length m = starts o m (omega arith) (omega arith) (a .place - 1) (omega arith) in
     record { fits = omega arith }
 
+-- src/lib.rt:93:21
 add-least : tie.Need-add-least
 add-least c =
     let a = (c .before .before .before .before .args) in
@@ -45,12 +57,15 @@ add-least c =
     let s : (a .place - 1) * o .chunk < length m = starts o m (omega arith) (omega arith) (a .place - 1) (omega arith) in
     record { fits = omega (arith, largest-range (o .version)) }
 
+-- src/lib.rt:93:9
 least-requires : tie.Need-least-requires
 least-requires c κs = search needs
 
+-- src/lib.rt:94:22
 cast-put : tie.Need-cast-put
 cast-put c = omega (arith, (c .before .before .frame-number .ensures), number-byte (c .before .before .before .before .before .args .place) (c .before .before .before .before .before .args .count) (omega arith) (omega arith))
 
+-- src/lib.rt:94:36
 sub-put : tie.Need-sub-put
 sub-put c =
     let a = (c .before .before .before .before .before .args) in
@@ -60,6 +75,7 @@ sub-put c =
     let s : (a .place - 1) * o .chunk < length m = starts o m (omega arith) (omega arith) (a .place - 1) (omega arith) in
     omega (arith, (c .least .ensures))
 
+-- src/lib.rt:94:36
 part-put-start : tie.Need-part-put-start
 part-put-start c =
     let a = (c .before .before .before .before .before .args) in
@@ -69,9 +85,11 @@ part-put-start c =
     let s : (a .place - 1) * o .chunk < length m = starts o m (omega arith) (omega arith) (a .place - 1) (omega arith) in
     omega (arith, (c .least .ensures))
 
+-- src/lib.rt:94:36
 part-put-end : tie.Need-part-put-end
 part-put-end c = search needs
 
+-- src/lib.rt:94:5
 put-requires : tie.Need-put-requires
 put-requires c κs =
     let a = (c .before .before .before .before .before .before .before .args) in
@@ -83,9 +101,11 @@ put-requires c κs =
     let l = some-chunk o m (omega arith) (omega arith) (a .place) (omega arith) (omega arith) in
     rw e (next-fault o (c .before .before .before .before .before .before .before .pre .0) (c .before .before .before .before .frame-number .result) (length (chunkOf o m (a .place))) (l .0) (l .1))
 
+-- src/lib.rt:84:1
 same-length : tie.Need-same-length
 same-length c = search needs
 
+-- src/lib.rt:84:1
 returns : tie.Need-returns
 returns c =
     let a = (c .before .before .before .before .before .before .before .before .before .before .args) in

@@ -1,11 +1,11 @@
-//! Prints a script: `generate [--frames] SEED LINES`.
+//! Prints a script: `generate [--frames | --payloads] SEED LINES`.
 
 use std::io::{self, BufWriter};
 use std::process::ExitCode;
 
 use reference::generate::{write_script, Form};
 
-const USAGE: &str = "usage: generate [--frames] SEED LINES";
+const USAGE: &str = "usage: generate [--frames | --payloads] SEED LINES";
 
 fn main() -> ExitCode {
     let Some((form, seed, lines)) = arguments() else {
@@ -28,6 +28,7 @@ fn arguments() -> Option<(Form, u64, u64)> {
     let words: Vec<String> = std::env::args().skip(1).collect();
     let (form, numbers) = match words.as_slice() {
         [option, numbers @ ..] if option == "--frames" => (Form::Frames, numbers),
+        [option, numbers @ ..] if option == "--payloads" => (Form::Payloads, numbers),
         numbers => (Form::All, numbers),
     };
     let [seed, lines] = numbers else { return None };

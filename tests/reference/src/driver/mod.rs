@@ -7,6 +7,7 @@
 //! to line (the link and its pool, for `new` and `call`) goes into [`Driver`].
 
 mod lines;
+mod payload;
 mod read;
 mod send;
 mod words;
@@ -69,7 +70,8 @@ impl Driver {
             b"read" => read::answer(&mut words, buffers, reply),
             b"write" => write::answer(&mut words, buffers, reply),
             b"send" => send::answer(&mut words, buffers, reply),
-            // `payload`, `new` and `call` are not served yet.
+            b"payload" => payload::answer(&mut words, buffers, reply),
+            // `new` and `call` are not served yet.
             _ => None,
         }
     }

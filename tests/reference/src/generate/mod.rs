@@ -4,8 +4,11 @@
 //! shorter one of the same seed. To try another command, add a module with
 //! a `line` function like those here and its weight in [`any_line`].
 
+mod draft;
+mod elements;
 mod headers;
 mod odd_lines;
+mod payload_lines;
 mod random;
 mod read_lines;
 mod send_lines;
@@ -24,15 +27,19 @@ pub enum Form {
     All,
     /// Readable `read` and `write` lines only.
     Frames,
+    /// Readable `payload` lines only.
+    Payloads,
 }
 
 /// Writes exactly `lines` lines.
 pub fn write_script(form: Form, seed: u64, lines: u64, mut out: impl Write) -> io::Result<()> {
     let mut random = Random::of(seed);
+    let mut waiting = Vec::new();
     for _ in 0..lines {
         let mut line = match form {
             Form::All => any_line(&mut random),
             Form::Frames => frame_line(&mut random),
+            Form::Payloads => payload_line(&mut random, &mut waiting),
         };
         line.push(b'\n');
         out.write_all(&line)?;
@@ -49,10 +56,11 @@ fn any_line(random: &mut Random) -> Vec<u8> {
 
 /// A readable line of any command.
 fn command_line(random: &mut Random) -> Vec<u8> {
-    match random.below(3) {
+    match random.below(4) {
         0 => read_lines::line(random),
         1 => write_lines::line(random),
-        _ => send_lines::line(random),
+        2 => send_lines::line(random),
+        _ => payload_lines::line(random),
     }
 }
 
@@ -62,6 +70,16 @@ fn frame_line(random: &mut Random) -> Vec<u8> {
     } else {
         write_lines::line(random)
     }
+}
+
+/// The next line of a family, all of whose lines are wanted; those still to
+/// come are `waiting`.
+fn payload_line(random: &mut Random, waiting: &mut Vec<Vec<u8>>) -> Vec<u8> {
+    if waiting.is_empty() {
+        *waiting = payload_lines::family(random);
+        waiting.reverse();
+    }
+    waiting.pop().unwrap_or_default()
 }
 
 /// A line put together word by word.

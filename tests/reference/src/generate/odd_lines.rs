@@ -77,6 +77,9 @@ fn other_command(random: &mut Random) -> Vec<u8> {
         b"sen",
         b"sends",
         b"sEnd",
+        b"payloa",
+        b"payloads",
+        b"Payload",
         b"?",
         b"-",
         b"0",
@@ -135,7 +138,7 @@ fn other_spaces(random: &mut Random) -> Vec<u8> {
 fn number_place(random: &mut Random) -> (Vec<Vec<u8>>, usize, u64) {
     let words = loop {
         let words = short_words(random);
-        if words[0] != b"read" {
+        if words[0] == b"write" || words[0] == b"send" {
             break words;
         }
     };
@@ -249,6 +252,7 @@ fn near_line_limit(random: &mut Random) -> Vec<u8> {
         "read 5107000100020000",
         "write 5 0 1 7 0 1 9 1 99 ",
         "send 5 7 1 7 9 0 99 ",
+        "payload ",
     ]);
     // The longest line with an even number of digits.
     let longest_even = LONGEST_LINE - (LONGEST_LINE - front.len()) % 2;

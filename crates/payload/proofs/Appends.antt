@@ -1,0 +1,82 @@
+-- Bytes put into a buffer piece by piece: each small writer's step, two steps after each other, and the answer of a public writer.
+-- By the laws of take and drop. Assumes nothing.
+use Prim.Native.Nat.{ℕ, _+_, _-_, _≤_, _<_}
+use mathlib.Core.Path.{_≡_, refl, ap, _∙_, sym}
+use mathlib.Core.List.{List, [], _∷_, _++_, append-assoc, append-nil}
+use native.Mathlib.Numerals.{add-one}
+use native.Mathlib.Omega.{arith}
+use borrow.Author.Tests.{le-leb, lt-leb}
+use borrow.Rule.Slice.PartMut.{putMid}
+use lib.ListN.{length, take, drop, set, length-append, length-take, length-drop, drop-of-length-le}
+use lib.Seq.{length-take-le, take-all, take-at, drop-at, drop-drop, set-split, paste}
+use Rattle.numbers.specs.Bytes.{part, putAt, laid}
+use Rattle.numbers.proofs.Laws.{put-fits}
+use Rattle.payload.specs.Append.{placed, Appended, wrote, putOf}
+use Rattle.payload.specs.declared.append.Written.the-variants.{Bytes, Refused}
+
+-- one more piece, right behind
+module _ (a b : List ℕ) {at n m : ℕ} {o p q : List ℕ} (room : at + length a ≤ length o) where
+  pub more : Appended at a o n p → Appended n b p m q → Appended at (a ++ b) o m q
+  more e f =
+      let z = take at o ++ a in
+      let l : length z ≡ n = omega (arith, length-append (take at o) a, length-take-le at o (omega arith), e .ends) in
+      let p' : p ≡ z ++ drop (at + length a) o = e .puts ∙ sym (append-assoc (take at o) a (drop (at + length a) o)) in
+      let near : take n p ≡ z = rw p' (take-at z (drop (at + length a) o) n l) in
+      let past : drop n p ≡ drop (at + length a) o = rw p' (drop-at z (drop (at + length a) o) n l) in
+      let k : at + length a + length b ≡ at + length (a ++ b) = omega (arith, length-append a b) in
+      let far : drop (n + length b) p ≡ drop (at + length (a ++ b)) o = sym (drop-drop (length b) n p) ∙ ap (drop (length b)) past ∙ drop-drop (length b) (at + length a) o ∙ ap (λ (i : ℕ). drop i o) k in
+      record {
+        ends = omega (arith, length-append a b, e .ends, f .ends);
+        puts = f .puts ∙ rw (near, far, append-assoc, append-assoc);
+      }
+
+-- the buffer keeps its length
+pub kept : (a : List ℕ) {at n : ℕ} {o p : List ℕ} → at + length a ≤ length o → Appended at a o n p → length p ≡ length o
+kept a {at} {o = o} room e =
+    let r = drop (at + length a) o in
+    ap length (e .puts) ∙ length-append (take at o) (a ++ r) ∙ omega (arith, length-append a r, length-take-le at o (omega arith), length-drop (at + length a) o)
+
+-- the same bytes under another name
+pub renamed : {a b : List ℕ} {at m : ℕ} {o q : List ℕ} → a ≡ b → Appended at a o m q → Appended at b o m q
+renamed e f = rw e at f
+
+-- one byte
+pub byte-put : (b at : ℕ) (o : List ℕ) → at + 1 ≤ length o → Appended at (b ∷ []) o (at + 1) (set o at b)
+byte-put b at o h =
+    let e : set o at b ≡ take at o ++ b ∷ drop (at + 1) o = rw add-one (set-split o at b (omega arith)) in
+    record { ends = refl; puts = e }
+
+-- a number of w bytes
+pub number-put : (w : ℕ) (b : List ℕ) (at : ℕ) (o q : List ℕ) → length b ≡ w → at + w ≤ length o → q ≡ putAt o at w b → Appended at b o (at + w) q
+number-put w b at o q l h e =
+    let t : take w b ≡ b = take-all w b (omega arith) in
+    let f : paste o at b w ≡ take at o ++ (b ++ drop (at + w) o) = rw (t, append-assoc) in
+    let z : at + w ≡ at + length b = omega arith in
+    record { ends = z; puts = e ∙ put-fits o at w b h ∙ f ∙ rw z }
+
+-- a part of the buffer that holds the bytes and nothing else
+pub part-put : (b : List ℕ) (at n : ℕ) (o q r : List ℕ) → n ≡ at + length b → r ≡ b → q ≡ putMid at (n - at) o r → Appended at b o n q
+part-put b at n o q r e f g =
+    let z : n - at ≡ length b = omega arith in
+    record { ends = e; puts = g ∙ rw (z, f, drop-drop) }
+
+-- a part as long as the bytes is all theirs
+pub filled : (b o : List ℕ) (at w : ℕ) → length b ≡ w → laid b (part o at w) ≡ b
+filled b o at w l =
+    let m : drop (length b) (part o at w) ≡ [] = drop-of-length-le (part o at w) {i = length b} (omega (arith, length-take w (drop at o))) in
+    rw m (append-nil b)
+
+-- what a public writer answers
+module _ (b o : List ℕ) (n : ℕ) (e : n ≡ length b) where
+  pub too-small : length o < n → wrote (Refused 11) o ≡ putOf b o
+  too-small h = rw (← e, lt-leb n (length o) h)
+
+  pub all-put : {m : ℕ} {q : List ℕ} → n ≤ length o → Appended 0 b o m q → wrote (Bytes n) q ≡ putOf b o
+  all-put h f =
+      let z : 0 + length b ≡ length b = omega arith in
+      let g : placed 0 b o ≡ laid b o = rw z in
+      ap (wrote (Bytes n)) (f .puts ∙ g) ∙ rw (← e, le-leb n (length o) h)
+
+-- the bytes that were put are the buffer's first ones
+pub put-front : (b o : List ℕ) → take (length b) (laid b o) ≡ b
+put-front b o = take-at b (drop (length b) o) (length b) refl

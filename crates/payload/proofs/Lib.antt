@@ -1,0 +1,15 @@
+pub mod Within
+pub mod Order
+pub mod Accepting
+pub mod TopLevel
+pub mod Figures
+pub mod Appends
+pub mod Versions
+pub mod Replies
+pub mod VersionLaws
+pub mod VersionOrder
+pub mod ReplyLaws
+pub mod Cases
+pub mod ReadBack
+mod Tests
+mod Rest

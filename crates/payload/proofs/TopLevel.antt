@@ -1,0 +1,259 @@
+-- "Only top-level tags count": a document inside another one leaves the tags as they were, and an element at the top adds its own tag
+-- and no other. So whatever holds of no tags and is kept by each top-level element holds of an accepted payload's tags (`tags-hold`).
+-- From it: the version string lies inside the slice, and the numbers have their 32 and 64 bits. Assumes nothing.
+use Prim.Native.Nat.{ℕ, zero, suc, _+_, _-_, _^_, _≤_, _<_}
+use mathlib.Core.Path.{_≡_, refl, sym, subst}
+use mathlib.Core.List.{List, [], _∷_}
+use mathlib.Core.Bool.{Bool, true, false, not, _||_}
+use native.Mathlib.Omega.{arith}
+use native.Mathlib.Nat.{pow-suc}
+use lib.ListN.{length, getD, take, drop}
+use lib.Dec.{leb, ltb, eqb}
+use borrow.Author.Tests.{leb-true, eqb-true}
+use Rattle.numbers.specs.Bytes.{AreBytes, part}
+use Rattle.numbers.specs.Numbers.{valueLe}
+use Rattle.numbers.proofs.Laws.{bytes-drop}
+use Rattle.payload.specs.Tags.{typed, found, clashes, noTags, withTag}
+use Rattle.payload.specs.Walk.{readType, nests, stringFits, stringOf, plainOf, tagAt, keyStop, headOf, pastPlain, pastNested, Nested, valueOf, elementOf, andThen, elements, documentFits, documentOf, answer, lengthFits, payloadOf}
+use Rattle.payload.specs.declared.Tags.{Tags}
+use Rattle.payload.specs.declared.Tag.{Tag}
+use Rattle.payload.specs.declared.Tag.the-variants.{Unknown, ProtocolVersion, HashId, Mtu, RejectedParams}
+use Rattle.payload.specs.declared.Skip.{Skip}
+use Rattle.payload.specs.declared.Skip.the-variants.{To, Wrong}
+use Rattle.payload.specs.declared.Head.{Head}
+use Rattle.payload.specs.declared.Head.the-variants.{Value, Bad}
+use Rattle.payload.specs.declared.Walk.{Walk}
+use Rattle.payload.specs.declared.Walk.the-variants.{Past, Fault}
+use Rattle.payload.specs.declared.Payload.{Payload}
+use Rattle.payload.specs.declared.Payload.the-variants.{Accepted, Refused}
+use Rattle.payload.proofs.Within.{either, unless-elim, and-both}
+
+-- a walk that leaves the tags as they were
+abbrev pub Keeps : Tags → Walk → Type 0
+Keeps t (Past n u) = u ≡ t
+Keeps t (Fault k) = Unit {0}
+
+abbrev pub NestedKeeps : Nested → Type 0
+NestedKeeps nested = (v end : ℕ) (t : Tags) → Keeps t (nested v end t)
+
+-- below the top level no key names a tag
+abbrev NamesNone : Head → Type 0
+NamesNone (Value kind tag v) = tag ≡ Unknown
+NamesNone (Bad k) = Unit {0}
+
+head-names-none : (s : List ℕ) (at end : ℕ) (t : Tags) → NamesNone (headOf false s at end t)
+unfolding headOf
+head-names-none s at end t =
+    unless-elim NamesNone (readType (getD s at 0)) _ _ (λ e. tt)
+    (λ e. unless-elim NamesNone (ltb (keyStop s at end) end) _ _ (λ e. tt)
+    (λ e. either NamesNone (clashes t Unknown (getD s at 0)) (Bad 34) (Value (getD s at 0) Unknown (keyStop s at end + 1)) (λ e. tt) (λ e. refl)))
+
+plain-keeps : (s : List ℕ) (w : Skip) (t : Tags) (tag : Tag) (v : ℕ) → tag ≡ Unknown → Keeps t (pastPlain s w t tag v)
+plain-keeps s (To n) t tag v e = rw e
+plain-keeps s Wrong t tag v e = tt
+
+nested-keeps : (s : List ℕ) (w : Walk) (t : Tags) (tag : Tag) (v : ℕ) → tag ≡ Unknown → Keeps t w → Keeps t (pastNested s w tag v)
+nested-keeps s (Past n u) t tag v e h = rw e h
+nested-keeps s (Fault k) t tag v e h = tt
+
+still-keeps : (t u : Tags) (w : Walk) → u ≡ t → Keeps u w → Keeps t w
+still-keeps t u w e h = subst (λ (x : Tags). Keeps x w) e h
+
+then-keeps : (t : Tags) (w : Walk) (rest : ℕ → Tags → Walk) → Keeps t w → ((n : ℕ) (u : Tags) → Keeps u (rest n u)) → Keeps t (andThen w rest)
+then-keeps t (Past n u) rest h r = still-keeps t u (rest n u) h (r n u)
+then-keeps t (Fault k) rest h r = tt
+
+module _ (nested : Nested) (keeps : NestedKeeps nested) (s : List ℕ) where
+  value-keeps : (end : ℕ) (t : Tags) (x : Head) → NamesNone x → Keeps t (valueOf nested s end t x)
+  value-keeps end t (Bad k) h = tt
+  value-keeps end t (Value kind tag v) h =
+      either (Keeps t) (nests kind) _ _
+      (λ e. nested-keeps s (nested v end t) t tag v h (keeps v end t))
+      (λ e. plain-keeps s (plainOf s v end kind) t tag v h)
+
+  element-keeps : (at end : ℕ) (t : Tags) → Keeps t (elementOf nested false s at end t)
+  unfolding elementOf
+  element-keeps at end t = value-keeps end t (headOf false s at end t) (head-names-none s at end t)
+
+  elements-keep : (bound at end : ℕ) (t : Tags) → Keeps t (elements bound nested false s at end t)
+  unfolding elements
+  elements-keep zero at end t = tt
+  elements-keep (suc bound) at end t =
+      unless-elim (Keeps t) (ltb at end) (Fault 32) _ (λ e. tt)
+      (λ e. either (Keeps t) (eqb (getD s at 0) 0) _ _
+      (λ z. unless-elim (Keeps t) (eqb (at + 1) end) (Fault 32) (Past end t) (λ e. tt) (λ e. refl))
+      (λ z. then-keeps t (elementOf nested false s at end t) _ (element-keeps at end t) (λ n u. elements-keep bound n end u)))
+
+-- a document below the top level leaves the tags as they were
+pub document-keeps : (levels : ℕ) (s : List ℕ) → NestedKeeps (documentOf levels false s)
+unfolding documentOf
+document-keeps zero s at end t = tt
+document-keeps (suc levels) s at end t =
+    unless-elim (Keeps t) (documentFits at end (valueLe (part s at 4))) (Fault 32) _ (λ e. tt)
+    (λ e. elements-keep (documentOf levels false s) (document-keeps levels s) s (valueLe (part s at 4)) (at + 4) (at + valueLe (part s at 4)) t)
+
+-- an accepted element of the top level, in a document that ends at end, with the tags t before it
+pub record TopElement (s : List ℕ) (end : ℕ) (t : Tags) (kind : ℕ) (tag : Tag) (v : ℕ) : Type 0 where
+  pub fresh : found t tag ≡ false
+  pub right : typed tag kind ≡ true
+  pub inside : end ≤ length s
+  pub value : nests kind ≡ false → (n : ℕ) × (plainOf s v end kind ≡ To n)
+
+or-neither : (b c : Bool) → b || not c ≡ false → (b ≡ false) × (c ≡ true)
+or-neither true c e = (e, cc)
+or-neither false true e = (refl, refl)
+or-neither false false e = (refl, sym e)
+
+abbrev HeadFits : Tags → Head → Type 0
+HeadFits t (Value kind tag v) = (found t tag ≡ false) × (typed tag kind ≡ true)
+HeadFits t (Bad k) = Unit {0}
+
+head-fits : (top : Bool) (s : List ℕ) (at end : ℕ) (t : Tags) → HeadFits t (headOf top s at end t)
+unfolding headOf
+head-fits top s at end t =
+    unless-elim (HeadFits t) (readType (getD s at 0)) _ _ (λ e. tt)
+    (λ e. unless-elim (HeadFits t) (ltb (keyStop s at end) end) _ _ (λ e. tt)
+    (λ e. either (HeadFits t) (clashes t (tagAt top s (at + 1) (keyStop s at end)) (getD s at 0)) (Bad 34) _
+    (λ e. tt)
+    (λ e. or-neither (found t (tagAt top s (at + 1) (keyStop s at end))) (typed (tagAt top s (at + 1) (keyStop s at end)) (getD s at 0)) e)))
+
+abbrev Holds : (Tags → Type 0) → Walk → Type 0
+Holds P (Past n t) = P t
+Holds P (Fault k) = Unit {0}
+
+abbrev pub AcceptedHolds : (Tags → Type 0) → Payload → Type 0
+AcceptedHolds P (Accepted t) = P t
+AcceptedHolds P (Refused k) = Unit {0}
+
+then-holds : (P : Tags → Type 0) (w : Walk) (rest : ℕ → Tags → Walk) → Holds P w → ((n : ℕ) (t : Tags) → P t → Holds P (rest n t)) → Holds P (andThen w rest)
+then-holds P (Past n t) rest h r = r n t h
+then-holds P (Fault k) rest h r = tt
+
+module _ (s : List ℕ) (P : Tags → Type 0) (step : (end : ℕ) (t : Tags) (kind : ℕ) (tag : Tag) (v : ℕ) → TopElement s end t kind tag v → P t → P (withTag s t tag v)) where
+  plain-holds : (end : ℕ) (t : Tags) (kind : ℕ) (tag : Tag) (v : ℕ) → found t tag ≡ false → typed tag kind ≡ true → end ≤ length s → P t
+      → (w : Skip) → plainOf s v end kind ≡ w → Holds P (pastPlain s w t tag v)
+  plain-holds end t kind tag v f g l p (To n) e = step end t kind tag v (record { fresh = f; right = g; inside = l; value = λ z. (n, e) }) p
+  plain-holds end t kind tag v f g l p Wrong e = tt
+
+  nested-holds : (end : ℕ) (t : Tags) (kind : ℕ) (tag : Tag) (v : ℕ) → found t tag ≡ false → typed tag kind ≡ true → end ≤ length s → nests kind ≡ true → P t
+      → (w : Walk) → Keeps t w → Holds P (pastNested s w tag v)
+  nested-holds end t kind tag v f g l y p (Past n u) e =
+      subst (λ (x : Tags). P (withTag s x tag v)) (sym e)
+      (step end t kind tag v (record { fresh = f; right = g; inside = l; value = λ z. (0, absurd (both (nests kind) y z)) }) p)
+    where
+      both : (b : Bool) → b ≡ true → b ≡ false → ⊥
+      both true y z = let o : _≡_ {A = ℕ} 0 1 = cc in omega arith
+      both false y z = let o : _≡_ {A = ℕ} 0 1 = cc in omega arith
+  nested-holds end t kind tag v f g l y p (Fault k) e = tt
+
+  module _ (nested : Nested) (keeps : NestedKeeps nested) where
+    value-holds : (end : ℕ) (t : Tags) → end ≤ length s → P t → (x : Head) → HeadFits t x → Holds P (valueOf nested s end t x)
+    value-holds end t l p (Bad k) h = tt
+    value-holds end t l p (Value kind tag v) h =
+        either (Holds P) (nests kind) _ _
+        (λ y. nested-holds end t kind tag v (h .0) (h .1) l y p (nested v end t) (keeps v end t))
+        (λ y. plain-holds end t kind tag v (h .0) (h .1) l p (plainOf s v end kind) refl)
+
+    element-holds : (at end : ℕ) (t : Tags) → end ≤ length s → P t → Holds P (elementOf nested true s at end t)
+    unfolding elementOf
+    element-holds at end t l p = value-holds end t l p (headOf true s at end t) (head-fits true s at end t)
+
+    elements-hold : (bound at end : ℕ) (t : Tags) → end ≤ length s → P t → Holds P (elements bound nested true s at end t)
+    unfolding elements
+    elements-hold zero at end t l p = tt
+    elements-hold (suc bound) at end t l p =
+        unless-elim (Holds P) (ltb at end) (Fault 32) _ (λ e. tt)
+        (λ e. either (Holds P) (eqb (getD s at 0) 0) _ _
+        (λ z. unless-elim (Holds P) (eqb (at + 1) end) (Fault 32) (Past end t) (λ e. tt) (λ e. p))
+        (λ z. then-holds P (elementOf nested true s at end t) _ (element-holds at end t l p) (λ n u q. elements-hold bound n end u l q)))
+
+  document-holds : (levels at end : ℕ) (t : Tags) → at ≤ end → end ≤ length s → P t → Holds P (documentOf levels true s at end t)
+  unfolding documentOf
+  document-holds zero at end t h l p = tt
+  document-holds (suc levels) at end t h l p =
+      let n = valueLe (part s at 4) in
+      unless-elim (Holds P) (documentFits at end n) (Fault 32) _ (λ e. tt)
+      (λ e.
+      let a = and-both (leb 4 (end - at)) _ e in
+      let b = and-both (leb 5 n) _ (a .1) in
+      elements-hold (documentOf levels false s) (document-keeps levels s) n (at + 4) (at + n) t (omega (arith, leb-true n (end - at) (b .1))) p)
+
+  answer-holds : (w : Walk) → Holds P w → AcceptedHolds P (answer w)
+  answer-holds (Past n t) h = h
+  answer-holds (Fault k) h = tt
+
+  -- what holds of no tags and is kept by each top-level element holds of an accepted payload's tags
+  pub tags-hold : P noTags → AcceptedHolds P (payloadOf s)
+  unfolding payloadOf
+  tags-hold p =
+      either (AcceptedHolds P) (eqb (length s) 0) _ _ (λ e. p)
+      (λ e. unless-elim (AcceptedHolds P) (lengthFits s) (Refused 30) _ (λ e. tt)
+      (λ e. answer-holds (documentOf 8 true s 0 (length s) noTags) (document-holds 8 0 (length s) noTags (omega arith) (omega arith) p)))
+
+-- an accepted string: its length, which is at least 1, keeps inside, and its last byte is 0
+abbrev pub StringSays : List ℕ → ℕ → ℕ → Skip → Type 0
+StringSays s v end (To n) = (1 ≤ valueLe (part s v 4)) × (v + 4 + valueLe (part s v 4) ≤ end) × (getD s (v + 3 + valueLe (part s v 4)) 0 ≡ 0)
+StringSays s v end Wrong = Unit {0}
+
+pub string-says : (s : List ℕ) (v end : ℕ) → StringSays s v end (stringOf s v end)
+unfolding stringOf
+string-says s v end =
+    let n = valueLe (part s v 4) in
+    either (StringSays s v end) (stringFits s v end n) (To (v + 4 + n)) Wrong
+    (λ e.
+    let a = and-both (leb 4 (end - v)) _ e in
+    let b = and-both (leb 1 n) _ (a .1) in
+    let c = and-both (leb n (end - v - 4)) _ (b .1) in
+    (leb-true 1 n (b .0), omega (arith, leb-true 4 (end - v) (a .0), leb-true n (end - v - 4) (c .0)), eqb-true (getD s (v + 3 + n) 0) 0 (c .1)))
+    (λ e. tt)
+
+-- a version string that was found lies inside the slice, and a 0 byte follows it
+abbrev pub VersionInside : List ℕ → Tags → Type 0
+VersionInside s t = t .version .found ≡ true → (t .version .at + t .version .length + 1 ≤ length s) × (getD s (t .version .at + t .version .length) 0 ≡ 0)
+
+plain-string : (s : List ℕ) (v end kind n : ℕ) → kind ≡ 2 → plainOf s v end kind ≡ To n → stringOf s v end ≡ To n
+unfolding plainOf
+plain-string s v end kind n k e = rw k at e
+
+nests-not : (kind : ℕ) → kind ≡ 2 → nests kind ≡ false
+nests-not kind k = rw k
+
+version-step : (s : List ℕ) (end : ℕ) (t : Tags) (kind : ℕ) (tag : Tag) (v : ℕ) → TopElement s end t kind tag v → VersionInside s t → VersionInside s (withTag s t tag v)
+version-step s end t kind Unknown v x p = p
+version-step s end t kind HashId v x p = p
+version-step s end t kind Mtu v x p = p
+version-step s end t kind RejectedParams v x p = p
+version-step s end t kind ProtocolVersion v x p = λ y.
+    let k : kind ≡ 2 = eqb-true kind 2 (x .right) in
+    let w = x .value (nests-not kind k) in
+    let n = valueLe (part s v 4) in
+    let f : StringSays s v end (To (w .0)) = subst (StringSays s v end) (plain-string s v end kind (w .0) k (w .1)) (string-says s v end) in
+    let z : v + 4 + (n - 1) ≡ v + 3 + n = omega arith in
+    (omega (arith, x .inside), rw z (f .2))
+
+pub version-inside : (s : List ℕ) → AcceptedHolds (VersionInside s) (payloadOf s)
+version-inside s = tags-hold s (VersionInside s) (version-step s) (λ y. absurd (never y))
+  where
+    never : false ≡ true → ⊥
+    never y = let o : _≡_ {A = ℕ} 0 1 = cc in omega arith
+
+-- numbers of four and of eight bytes
+pub value-most : (w : ℕ) (bs : List ℕ) → AreBytes bs → valueLe (take w bs) < 256 ^ w
+unfolding valueLe
+value-most zero bs h = omega arith
+value-most (suc w) [] h = omega (arith, pow-suc 256 w, value-most w [] tt)
+value-most (suc w) (b ∷ bs) h = omega (arith, pow-suc 256 w, value-most w bs (h .1))
+
+abbrev pub Bounded : Tags → Type 0
+Bounded t = (t .hash .value < 4294967296) × (t .mtu .value < 18446744073709551616)
+
+bounded-step : (s : List ℕ) → AreBytes s → (end : ℕ) (t : Tags) (kind : ℕ) (tag : Tag) (v : ℕ) → TopElement s end t kind tag v → Bounded t → Bounded (withTag s t tag v)
+bounded-step s h end t kind Unknown v x p = p
+bounded-step s h end t kind ProtocolVersion v x p = p
+bounded-step s h end t kind RejectedParams v x p = p
+bounded-step s h end t kind HashId v x p = (value-most 4 (drop v s) (bytes-drop v s h), p .1)
+bounded-step s h end t kind Mtu v x p = (p .0, value-most 8 (drop v s) (bytes-drop v s h))
+
+-- of bytes, a hash id has 32 bits and an mtu 64
+pub numbers-bounded : (s : List ℕ) → AreBytes s → AcceptedHolds Bounded (payloadOf s)
+numbers-bounded s h = tags-hold s Bounded (bounded-step s h) (omega arith, omega arith)

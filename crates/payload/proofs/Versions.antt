@@ -1,0 +1,98 @@
+-- What the code of the version strings asks: the text around a dot, how many digits a part has, and the string put piece by piece.
+-- By the laws of take and drop and the equations of decimal text. Assumes nothing.
+use Prim.Native.Nat.{ℕ, _+_, _-_, _/_, _≤_, _<_}
+use mathlib.Core.Path.{_≡_, ap, _∙_, sym}
+use mathlib.Core.List.{List, [], _∷_, _++_, append-assoc}
+use native.Mathlib.Omega.{arith}
+use lib.Dec.{ltb}
+use borrow.Author.Tests.{le-ltb, ltb-true, ltb-false}
+use lib.ListN.{length, take, drop, length-append, length-drop, drop-of-length-le}
+use lib.Seq.{length-take-le, take-all, take-length}
+use Rattle.bytes.specs.Bytes.{indexOf, slice}
+use Rattle.lines.specs.Text.{encoded, writtenOf}
+use Rattle.lines.specs.Decimal.{decimalOf}
+use Rattle.lines.specs.declared.Encoded.{Encoded}
+use Rattle.lines.specs.declared.Encoded.the-variants.{Chars}
+use Rattle.lines.proofs.Turns.{split}
+use Rattle.lines.proofs.Digits.{width-one, width-step}
+use Rattle.numbers.specs.Bytes.{part, laid}
+use Rattle.payload.specs.Append.{Appended}
+use Rattle.payload.specs.Version.{beforeDot, afterDot, versionText}
+use Rattle.payload.specs.declared.version.Version.{Version}
+use Rattle.payload.proofs.Appends.{more, renamed, filled}
+
+-- the place of the first dot, found in the whole text
+module _ (text : List ℕ) (r : ℕ) (e : r ≡ 0 + indexOf 46 (slice 0 (length text) text)) where
+  place : r ≡ indexOf 46 text
+  unfolding slice
+  place =
+      let t : take (length text) text ≡ text = take-length text in
+      let z : indexOf 46 (take (length text) text) ≡ indexOf 46 text = rw t in
+      omega arith
+
+  pub before-found : take (r - 0) (drop 0 text) ≡ beforeDot text
+  before-found =
+      let z : r - 0 ≡ indexOf 46 text = omega (arith, place) in
+      rw z
+
+  pub after-none : r ≡ length text → take (length text - r) (drop r text) ≡ afterDot text
+  after-none h =
+      let z : length text - r ≡ 0 = omega arith in
+      let k : length text ≤ indexOf 46 text + 1 = omega (arith, place) in
+      rw z (sym (drop-of-length-le text {i = indexOf 46 text + 1} k))
+
+  pub after-found : take (length text - (r + 1)) (drop (r + 1) text) ≡ afterDot text
+  after-found =
+      let z : r + 1 ≡ indexOf 46 text + 1 = omega (arith, place) in
+      take-all (length text - (r + 1)) (drop (r + 1) text) (omega (arith, length-drop (r + 1) text)) ∙ rw z
+
+-- one to three digits
+module _ (n : ℕ) where
+  pub digits-one : n < 10 → length (decimalOf n) ≡ 1
+  digits-one h = width-one n h
+
+  pub digits-two : 10 ≤ n → n < 100 → length (decimalOf n) ≡ 2
+  digits-two l h = omega (arith, width-step n l, width-one (n / 10) (omega arith))
+
+  pub digits-three : 100 ≤ n → n < 256 → length (decimalOf n) ≡ 3
+  digits-three l h = omega (arith, width-step n (omega arith), width-step (n / 10) (omega arith), width-one (n / 10 / 10) (omega arith))
+
+  pub digits-most : n < 256 → length (decimalOf n) ≤ 3
+  digits-most h =
+      split (ltb n 10) (λ e. omega (arith, digits-one (ltb-true n 10 e))) λ e.
+      split (ltb n 100) (λ f. omega (arith, digits-two (ltb-false n 10 e) (ltb-true n 100 f))) λ f.
+      omega (arith, digits-three (ltb-false n 100 f) h)
+
+-- decimal text that fills the part that is lent for it
+pub digits-put : (n at w : ℕ) (o : List ℕ) {a : Encoded} {r : List ℕ} → w ≡ length (decimalOf n) → at + length (decimalOf n) ≤ length o
+    → encoded a r ≡ writtenOf (decimalOf n) (part o at (at + w - at)) → r ≡ decimalOf n
+unfolding writtenOf
+digits-put n at w o {a} {r} e room f =
+    let d = decimalOf n in
+    let z : at + w - at ≡ w = omega arith in
+    let l : length (part o at w) ≡ w = length-take-le w (drop at o) (omega (arith, length-drop at o)) in
+    let g : encoded a r ≡ encoded (Chars (length d)) (laid d (part o at w)) = f ∙ rw (z, l, le-ltb w (length d) (omega arith)) in
+    ap (λ w. w .buffer) g ∙ filled d o at w (sym e)
+
+-- the string of a version: three parts and two dots
+module _ (v : Version) where
+  pub length-version : length (versionText v) ≡ length (decimalOf (v .major)) + 1 + length (decimalOf (v .minor)) + 1 + length (decimalOf (v .patch))
+  unfolding versionText
+  length-version = simp length-append (omega arith)
+
+  pub version-most : v .major < 256 → v .minor < 256 → v .patch < 256 → length (versionText v) ≤ 11
+  version-most a b c = omega (arith, length-version, digits-most (v .major) a, digits-most (v .minor) b, digits-most (v .patch) c)
+
+  pub version-put : {at n₁ n₂ n₃ n₄ m : ℕ} {o p₁ p₂ p₃ p₄ q : List ℕ} → at + length (versionText v) ≤ length o
+      → Appended at (decimalOf (v .major)) o n₁ p₁ → Appended n₁ (46 ∷ []) p₁ n₂ p₂ → Appended n₂ (decimalOf (v .minor)) p₂ n₃ p₃
+      → Appended n₃ (46 ∷ []) p₃ n₄ p₄ → Appended n₄ (decimalOf (v .patch)) p₄ m q → Appended at (versionText v) o m q
+  unfolding versionText
+  version-put room e₁ e₂ e₃ e₄ e₅ =
+      let a = decimalOf (v .major) in
+      let b = decimalOf (v .minor) in
+      let c = decimalOf (v .patch) in
+      renamed (simp append-assoc)
+      (more (a ++ (46 ∷ []) ++ b ++ (46 ∷ [])) c (simp length-append (omega (arith, length-version)))
+      (more (a ++ (46 ∷ []) ++ b) (46 ∷ []) (simp length-append (omega (arith, length-version)))
+      (more (a ++ (46 ∷ [])) b (simp length-append (omega (arith, length-version)))
+      (more a (46 ∷ []) (omega (arith, length-version)) e₁ e₂) e₃) e₄) e₅)

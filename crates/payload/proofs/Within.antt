@@ -1,0 +1,162 @@
+-- What is accepted lies inside its document, and the bound on the number of elements never decides an answer.
+-- By the tests of the definitions; the second by induction on both bounds, since each element takes at least one byte.
+-- Assumes nothing.
+use Prim.Native.Nat.{ℕ, zero, suc, _+_, _-_, _≤_}
+use mathlib.Core.Path.{_≡_, refl, ap}
+use mathlib.Core.List.{List}
+use mathlib.Core.Bool.{Bool, true, false, _&&_}
+use native.Mathlib.Omega.{arith}
+use lib.ListN.{getD}
+use lib.Dec.{leb, ltb, eqb}
+use borrow.Author.Tests.{ltb-true, leb-true, le-ltb}
+use Rattle.numbers.specs.Bytes.{part, pick, unless}
+use Rattle.numbers.specs.Numbers.{valueLe}
+use Rattle.payload.specs.Tags.{clashes}
+use Rattle.payload.specs.Walk.{readType, nests, fixedOf, booleanOf, stringFits, stringOf, plainOf, tagAt, keyStop, headOf, pastPlain, pastNested, Nested, valueOf, elementOf, andThen, elements, documentFits, documentOf}
+use Rattle.payload.specs.declared.Tags.{Tags}
+use Rattle.payload.specs.declared.Tag.{Tag}
+use Rattle.payload.specs.declared.Skip.{Skip}
+use Rattle.payload.specs.declared.Skip.the-variants.{To, Wrong}
+use Rattle.payload.specs.declared.Head.{Head}
+use Rattle.payload.specs.declared.Head.the-variants.{Value, Bad}
+use Rattle.payload.specs.declared.Walk.{Walk}
+use Rattle.payload.specs.declared.Walk.the-variants.{Past, Fault}
+
+-- a property of both ways, each with its test, holds of the way taken
+pub either : {A : Type 0} (P : A → Type 0) (b : Bool) (x y : A) → (b ≡ true → P x) → (b ≡ false → P y) → P (pick b x y)
+either P true x y f g = f refl
+either P false x y f g = g refl
+
+pub unless-elim : {A : Type 0} (P : A → Type 0) (b : Bool) (x y : A) → (b ≡ false → P x) → (b ≡ true → P y) → P (unless b x y)
+unless-elim P true x y f g = g refl
+unless-elim P false x y f g = f refl
+
+pub and-both : (b c : Bool) → b && c ≡ true → (b ≡ true) × (c ≡ true)
+and-both true c e = (refl, e)
+and-both false c e = (e, cc)
+
+-- what is accepted ends from lo up to hi
+abbrev pub SkipIn : ℕ → ℕ → Skip → Type 0
+SkipIn lo hi (To n) = (lo ≤ n) × (n ≤ hi)
+SkipIn lo hi Wrong = Unit {0}
+
+abbrev pub HeadIn : ℕ → ℕ → Head → Type 0
+HeadIn lo hi (Value kind tag v) = (lo ≤ v) × (v ≤ hi)
+HeadIn lo hi (Bad k) = Unit {0}
+
+abbrev pub WalkIn : ℕ → ℕ → Walk → Type 0
+WalkIn lo hi (Past n t) = (lo ≤ n) × (n ≤ hi)
+WalkIn lo hi (Fault k) = Unit {0}
+
+module _ (s : List ℕ) (v end : ℕ) (h : v ≤ end) where
+  fixed-in : (w : ℕ) → SkipIn v end (fixedOf w v end)
+  unfolding fixedOf
+  fixed-in w = either (SkipIn v end) (leb w (end - v)) (To (v + w)) Wrong (λ e. omega (arith, leb-true w (end - v) e)) (λ e. tt)
+
+  boolean-in : SkipIn v end (booleanOf s v end)
+  unfolding booleanOf
+  boolean-in =
+      either (SkipIn v end) (ltb v end && ltb (getD s v 0) 2) (To (v + 1)) Wrong
+      (λ e. omega (arith, ltb-true v end (and-both (ltb v end) _ e .0)))
+      (λ e. tt)
+
+  string-in : SkipIn v end (stringOf s v end)
+  unfolding stringOf
+  string-in =
+      let n = valueLe (part s v 4) in
+      either (SkipIn v end) (stringFits s v end n) (To (v + 4 + n)) Wrong
+      (λ e.
+      let a = and-both (leb 4 (end - v)) _ e in
+      let b = and-both (leb 1 n) _ (a .1) in
+      let c = and-both (leb n (end - v - 4)) _ (b .1) in
+      omega (arith, leb-true 4 (end - v) (a .0), leb-true n (end - v - 4) (c .0)))
+      (λ e. tt)
+
+  pub plain-in : (kind : ℕ) → SkipIn v end (plainOf s v end kind)
+  unfolding plainOf
+  plain-in kind =
+      either (SkipIn v end) (eqb kind 0x02) _ _ (λ e. string-in)
+      (λ e. either (SkipIn v end) (eqb kind 0x08) _ _ (λ e. boolean-in)
+      (λ e. either (SkipIn v end) (eqb kind 0x0A) _ _ (λ e. fixed-in 0)
+      (λ e. either (SkipIn v end) (eqb kind 0x10) _ _ (λ e. fixed-in 4)
+      (λ e. either (SkipIn v end) (eqb kind 0x01) _ _ (λ e. fixed-in 8)
+      (λ e. either (SkipIn v end) (eqb kind 0x12) _ _ (λ e. fixed-in 8) (λ e. tt))))))
+
+pub head-in : (top : Bool) (s : List ℕ) (at end : ℕ) (t : Tags) → HeadIn (at + 1) end (headOf top s at end t)
+unfolding headOf
+head-in top s at end t =
+    unless-elim (HeadIn (at + 1) end) (readType (getD s at 0)) _ _ (λ e. tt)
+    (λ e. unless-elim (HeadIn (at + 1) end) (ltb (keyStop s at end) end) _ _ (λ l. tt)
+    (λ l. either (HeadIn (at + 1) end) (clashes t (tagAt top s (at + 1) (keyStop s at end)) (getD s at 0)) _ _
+    (λ c. tt)
+    (λ c. omega (arith, ltb-true (keyStop s at end) end l))))
+
+-- a walk that keeps inside the document around it
+abbrev pub Inside : Nested → Type 0
+Inside nested = (v end : ℕ) (t : Tags) → v ≤ end → WalkIn v end (nested v end t)
+
+nested-in : (s : List ℕ) (lo v hi : ℕ) (w : Walk) (tag : Tag) → lo ≤ v → WalkIn v hi w → WalkIn lo hi (pastNested s w tag v)
+nested-in s lo v hi (Past n t) tag h i = omega arith
+nested-in s lo v hi (Fault k) tag h i = tt
+
+past-in : (s : List ℕ) (lo v hi : ℕ) (w : Skip) (t : Tags) (tag : Tag) → lo ≤ v → SkipIn v hi w → WalkIn lo hi (pastPlain s w t tag v)
+past-in s lo v hi (To n) t tag h i = omega arith
+past-in s lo v hi Wrong t tag h i = tt
+
+value-in : (nested : Nested) → Inside nested → (s : List ℕ) (at end : ℕ) (t : Tags) (x : Head) → HeadIn (at + 1) end x → WalkIn (at + 1) end (valueOf nested s end t x)
+value-in nested i s at end t (Bad k) h = tt
+value-in nested i s at end t (Value kind tag v) h =
+    either (WalkIn (at + 1) end) (nests kind) _ _
+    (λ e. nested-in s (at + 1) v end (nested v end t) tag (h .0) (i v end t (h .1)))
+    (λ e. past-in s (at + 1) v end (plainOf s v end kind) t tag (h .0) (plain-in s v end (h .1) kind))
+
+pub element-in : (nested : Nested) → Inside nested → (top : Bool) (s : List ℕ) (at end : ℕ) (t : Tags) → WalkIn (at + 1) end (elementOf nested top s at end t)
+unfolding elementOf
+element-in nested i top s at end t = value-in nested i s at end t (headOf top s at end t) (head-in top s at end t)
+
+then-in : (lo hi : ℕ) (w : Walk) (rest : ℕ → Tags → Walk) → ((n : ℕ) (t : Tags) → WalkIn lo hi (rest n t)) → WalkIn lo hi (andThen w rest)
+then-in lo hi (Past n t) rest h = h n t
+then-in lo hi (Fault k) rest h = tt
+
+elements-in : (bound : ℕ) (nested : Nested) (top : Bool) (s : List ℕ) (at end : ℕ) (t : Tags) → WalkIn end end (elements bound nested top s at end t)
+unfolding elements
+elements-in zero nested top s at end t = tt
+elements-in (suc bound) nested top s at end t =
+    unless-elim (WalkIn end end) (ltb at end) _ _ (λ l. tt)
+    (λ l. either (WalkIn end end) (eqb (getD s at 0) 0) _ _
+    (λ z. unless-elim (WalkIn end end) (eqb (at + 1) end) (Fault 32) (Past end t) (λ k. tt) (λ k. omega arith))
+    (λ z. then-in end end (elementOf nested top s at end t) _ (λ n u. elements-in bound nested top s n end u)))
+
+wider : (lo hi end : ℕ) (w : Walk) → lo ≤ end → end ≤ hi → WalkIn end end w → WalkIn lo hi w
+wider lo hi end (Past n t) a b i = omega arith
+wider lo hi end (Fault k) a b i = tt
+
+-- an accepted document ends inside the one around it
+pub document-in : (levels : ℕ) (top : Bool) (s : List ℕ) (at end : ℕ) (t : Tags) → at ≤ end → WalkIn at end (documentOf levels top s at end t)
+unfolding documentOf
+document-in zero top s at end t h = tt
+document-in (suc levels) top s at end t h =
+    let n = valueLe (part s at 4) in
+    unless-elim (WalkIn at end) (documentFits at end n) _ _ (λ e. tt)
+    (λ e.
+    let a = and-both (leb 4 (end - at)) _ e in
+    let b = and-both (leb 5 n) _ (a .1) in
+    wider at end (at + n) (elements n (documentOf levels false s) top s (at + 4) (at + n) t) (omega arith)
+    (omega (arith, leb-true n (end - at) (b .1)))
+    (elements-in n (documentOf levels false s) top s (at + 4) (at + n) t))
+
+then-same : (lo hi : ℕ) (w : Walk) (f g : ℕ → Tags → Walk) → WalkIn lo hi w → ((n : ℕ) (t : Tags) → lo ≤ n → f n t ≡ g n t) → andThen w f ≡ andThen w g
+then-same lo hi (Past n t) f g i h = h n t (i .0)
+then-same lo hi (Fault k) f g i h = refl
+
+-- any two bounds that are at least the bytes left give one answer
+pub enough : (a b : ℕ) (nested : Nested) → Inside nested → (top : Bool) (s : List ℕ) (at end : ℕ) (t : Tags) → end - at ≤ a → end - at ≤ b
+    → elements a nested top s at end t ≡ elements b nested top s at end t
+unfolding elements
+enough zero zero nested i top s at end t h k = refl
+enough zero (suc b) nested i top s at end t h k = rw (le-ltb at end (omega arith))
+enough (suc a) zero nested i top s at end t h k = rw (le-ltb at end (omega arith))
+enough (suc a) (suc b) nested i top s at end t h k =
+    ap (λ (w : Walk). unless (ltb at end) (Fault 32) (pick (eqb (getD s at 0) 0) (unless (eqb (at + 1) end) (Fault 32) (Past end t)) w))
+    (then-same (at + 1) end (elementOf nested top s at end t) _ _ (element-in nested i top s at end t)
+    (λ n u l. enough a b nested i top s n end u (omega arith) (omega arith)))

@@ -1,0 +1,20 @@
+-- `payload::past_plain` meets its contract: each case of the skip by its own equation.
+-- Assumes nothing.
+use borrow.Author.Needs.{needs}
+use Rattle.payload.proofs.past_plain.Statement.{statement}
+use Rattle.payload.proofs.past_plain.Tie as tie
+
+enum-known-skip : tie.Need-enum-known-skip
+enum-known-skip c = search needs
+
+enum-told : tie.Need-enum-told
+enum-told c = search needs
+
+returns : tie.Need-returns
+returns c = rw (c .before .skip .given .1)
+
+returns-2 : tie.Need-returns-2
+returns-2 c = search needs
+
+pub past-plain-spec : {M : Type 1} → statement M
+past-plain-spec = tie.close (tie.spec enum-known-skip enum-told returns returns-2)

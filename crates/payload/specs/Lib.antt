@@ -1,0 +1,7 @@
+pub mod Step
+pub mod Tags
+pub mod Walk
+pub mod Append
+pub mod Version
+pub mod Reply
+pub mod Figures
