@@ -1,0 +1,310 @@
+-- The laws of the blocks' bytes, for any map and any pool: what an append, a claim, a release and a delivery do to each owner's bytes.
+-- By induction along the map, a block at a time. Assumes nothing.
+use Prim.Native.Nat.{ℕ, suc, _+_, _-_, _*_, _≤_, _<_}
+use mathlib.Core.Path.{_≡_, refl, ap, ap₂, sym, _∙_}
+use mathlib.Core.Logic.{_≢_}
+use mathlib.Core.List.{List, [], _∷_, _++_, append-nil}
+use native.Mathlib.Omega.{arith}
+use lib.Dec.{eqb}
+use lib.ListN.{length, take, drop, length-append, length-take, length-drop, drop-of-length-le, take-append-drop}
+use lib.Seq.{take-nil, take-all, take-at, drop-at, drop-drop, length-take-le, take-append-add}
+use borrow.Author.Tests.{eqb-true, eqb-false, eq-eqb, ne-eqb}
+use Rattle.numbers.specs.Bytes.{pick, laid}
+use Rattle.blocks.specs.Map.{blockSize, free, heldBy, claimed, released, numbersFrom, blockNumbers, Outside}
+use Rattle.blocks.specs.Pool.{blockBytes, over, appended, delivered, joined}
+use Rattle.blocks.proofs.Over.{split, compare, over-length, over-append, over-adds, over-front}
+use Rattle.blocks.proofs.Counts.{held-mine, held-not, claim-taken, claim-enough, claim-held, claim-cases, release-hit, release-below, release-above, release-cases, numbers-mine, numbers-not}
+
+-- ---- one block
+
+pub bytes-mine : (owner o : ℕ) (map pool : List ℕ) → o ≡ owner → blockBytes owner (o ∷ map) pool ≡ take blockSize pool ++ blockBytes owner map (drop blockSize pool)
+unfolding blockBytes
+bytes-mine owner o map pool e = rw (eq-eqb o owner e)
+
+pub bytes-not : (owner o : ℕ) (map pool : List ℕ) → o ≢ owner → blockBytes owner (o ∷ map) pool ≡ blockBytes owner map (drop blockSize pool)
+unfolding blockBytes
+bytes-not owner o map pool h = rw (ne-eqb o owner h)
+
+-- a pool of no bytes
+pub bytes-none : (owner : ℕ) (map : List ℕ) → blockBytes owner map [] ≡ []
+unfolding blockBytes
+bytes-none owner [] = refl
+bytes-none owner (o ∷ map) = split (eqb o owner) (λ e. rw e (bytes-none owner map)) (λ e. rw e (bytes-none owner map))
+
+pub append-mine : (owner at o : ℕ) (s map pool : List ℕ) → o ≡ owner
+    → appended owner at s (o ∷ map) pool ≡ over at s (take blockSize pool) ++ appended owner (at - blockSize) (drop (blockSize - at) s) map (drop blockSize pool)
+unfolding appended
+append-mine owner at o s map pool e = rw (eq-eqb o owner e)
+
+pub append-not : (owner at o : ℕ) (s map pool : List ℕ) → o ≢ owner
+    → appended owner at s (o ∷ map) pool ≡ take blockSize pool ++ appended owner at s map (drop blockSize pool)
+unfolding appended
+append-not owner at o s map pool h = rw (ne-eqb o owner h)
+
+-- cases on a block's owner
+mine-cases : {X : Type 0} (o owner : ℕ) → (o ≡ owner → X) → (o ≢ owner → X) → X
+mine-cases o owner f g = split (eqb o owner) (λ e. f (eqb-true o owner e)) (λ e. g (eqb-false o owner e))
+
+-- a block and what is behind it, in a pool whose pieces are as long as they were
+nil-of : (l : List ℕ) → length l ≡ 0 → l ≡ []
+nil-of [] e = refl
+nil-of (x ∷ l) e = absurd (omega arith)
+
+module _ (block rest pool : List ℕ) (same : length block ≡ length (take blockSize pool)) (left : length rest ≡ length (drop blockSize pool)) where
+  pub front-block : take blockSize (block ++ rest) ≡ block
+  front-block =
+      compare blockSize (length pool)
+      (λ h. take-at block rest blockSize (same ∙ length-take-le blockSize pool h))
+      (λ h.
+      let none : rest ≡ [] = nil-of rest (omega (arith, length-drop blockSize pool)) in
+      rw (none, append-nil) (take-all blockSize block (omega (arith, length-take blockSize pool))))
+
+  pub behind-block : drop blockSize (block ++ rest) ≡ rest
+  behind-block =
+      compare blockSize (length pool)
+      (λ h. drop-at block rest blockSize (same ∙ length-take-le blockSize pool h))
+      (λ h.
+      let none : rest ≡ [] = nil-of rest (omega (arith, length-drop blockSize pool)) in
+      let short : length block ≤ blockSize = omega (arith, length-take blockSize pool) in
+      rw (none, append-nil) (drop-of-length-le block {i = blockSize} short))
+
+-- ---- how long
+
+-- where every block is there, an owner has so many bytes as blocks say
+pub bytes-length : (owner : ℕ) (map pool : List ℕ) → blockSize * length map ≤ length pool → length (blockBytes owner map pool) ≡ blockSize * heldBy owner map
+unfolding blockBytes heldBy
+bytes-length owner [] pool h = refl
+bytes-length owner (o ∷ map) pool h =
+    let ih = bytes-length owner map (drop blockSize pool) (omega (arith, length-drop blockSize pool)) in
+    let full = length-take-le blockSize pool (omega arith) in
+    mine-cases o owner
+    (λ e. ap length (bytes-mine owner o map pool e) ∙ length-append (take blockSize pool) _ ∙ omega (arith, held-mine owner o map e))
+    (λ e. ap length (bytes-not owner o map pool e) ∙ omega (arith, held-not owner o map e))
+
+-- an append changes no length
+pub append-length : (owner at : ℕ) (s map pool : List ℕ) → length (appended owner at s map pool) ≡ length pool
+unfolding appended
+append-length owner at s [] pool = refl
+append-length owner at s (o ∷ map) pool =
+    let whole : length (take blockSize pool) + length (drop blockSize pool) ≡ length pool =
+    sym (length-append (take blockSize pool) (drop blockSize pool)) ∙ ap length (take-append-drop blockSize pool) in
+    mine-cases o owner
+    (λ e.
+    ap length (append-mine owner at o s map pool e) ∙ length-append (over at s (take blockSize pool)) _
+    ∙ omega (arith, over-length at s (take blockSize pool), append-length owner (at - blockSize) (drop (blockSize - at) s) map (drop blockSize pool)))
+    (λ e.
+    ap length (append-not owner at o s map pool e) ∙ length-append (take blockSize pool) _
+    ∙ omega (arith, append-length owner at s map (drop blockSize pool)))
+
+-- ---- appending
+
+-- a block is whole, or nothing is behind it
+whole-or-last : (owner at : ℕ) (s map pool : List ℕ)
+    → over (at - blockSize) (drop (blockSize - at) s) (blockBytes owner map (drop blockSize pool))
+    ≡ over (at - length (take blockSize pool)) (drop (length (take blockSize pool) - at) s) (blockBytes owner map (drop blockSize pool))
+unfolding over
+whole-or-last owner at s map pool =
+    compare blockSize (length pool)
+    (λ h. let e : length (take blockSize pool) ≡ blockSize = length-take-le blockSize pool h in rw e)
+    (λ h.
+    let short : length pool ≤ blockSize = omega arith in
+    let none : blockBytes owner map (drop blockSize pool) ≡ [] = rw (drop-of-length-le pool {i = blockSize} short) (bytes-none owner map) in
+    rw none)
+
+-- the owner's bytes with the payload put over them, and no others
+pub append-bytes : (owner at : ℕ) (s map pool : List ℕ) → blockBytes owner map (appended owner at s map pool) ≡ over at s (blockBytes owner map pool)
+unfolding blockBytes over
+append-bytes owner at s [] pool = refl
+append-bytes owner at s (o ∷ map) pool =
+    mine-cases o owner
+    (λ e.
+    let block : List ℕ = over at s (take blockSize pool) in
+    let at₂ : ℕ = at - blockSize in
+    let s₂ : List ℕ = drop (blockSize - at) s in
+    let rest : List ℕ = appended owner at₂ s₂ map (drop blockSize pool) in
+    let old : List ℕ = blockBytes owner map (drop blockSize pool) in
+    let same = over-length at s (take blockSize pool) in
+    let left = append-length owner at₂ s₂ map (drop blockSize pool) in
+    ap (blockBytes owner (o ∷ map)) (append-mine owner at o s map pool e) ∙ bytes-mine owner o map (block ++ rest) e
+    ∙ ap₂ (λ (a b : List ℕ). a ++ blockBytes owner map b) (front-block block rest pool same left) (behind-block block rest pool same left)
+    ∙ ap (λ (t : List ℕ). block ++ t) (append-bytes owner at₂ s₂ map (drop blockSize pool) ∙ whole-or-last owner at s map pool)
+    ∙ sym (over-append at s (take blockSize pool) old) ∙ ap (over at s) (sym (bytes-mine owner o map pool e)))
+    (λ e.
+    let rest : List ℕ = appended owner at s map (drop blockSize pool) in
+    let left = append-length owner at s map (drop blockSize pool) in
+    ap (blockBytes owner (o ∷ map)) (append-not owner at o s map pool e) ∙ bytes-not owner o map (take blockSize pool ++ rest) e
+    ∙ ap (blockBytes owner map) (behind-block (take blockSize pool) rest pool refl left) ∙ append-bytes owner at s map (drop blockSize pool)
+    ∙ ap (over at s) (sym (bytes-not owner o map pool e)))
+
+-- where the payload fits, it stands right behind the first `at` bytes
+pub append-adds : (owner at : ℕ) (s map pool : List ℕ) → at + length s ≤ length (blockBytes owner map pool)
+    → take (at + length s) (blockBytes owner map (appended owner at s map pool)) ≡ take at (blockBytes owner map pool) ++ s
+append-adds owner at s map pool h = ap (take (at + length s)) (append-bytes owner at s map pool) ∙ over-adds at s (blockBytes owner map pool) h
+
+-- the same where every block is there: the owner's blocks have room
+pub append-fits : (owner at : ℕ) (s map pool : List ℕ) → blockSize * length map ≤ length pool → at + length s ≤ blockSize * heldBy owner map
+    → take (at + length s) (blockBytes owner map (appended owner at s map pool)) ≡ take at (blockBytes owner map pool) ++ s
+append-fits owner at s map pool e h = append-adds owner at s map pool (omega (arith, bytes-length owner map pool e))
+
+-- the bytes of every other owner stay, and those of the free blocks
+pub append-others : (other owner at : ℕ) (s map pool : List ℕ) → other ≢ owner → blockBytes other map (appended owner at s map pool) ≡ blockBytes other map pool
+unfolding blockBytes
+append-others other owner at s [] pool d = refl
+append-others other owner at s (o ∷ map) pool d =
+    mine-cases o owner
+    (λ e.
+    let block : List ℕ = over at s (take blockSize pool) in
+    let rest : List ℕ = appended owner (at - blockSize) (drop (blockSize - at) s) map (drop blockSize pool) in
+    let same = over-length at s (take blockSize pool) in
+    let left = append-length owner (at - blockSize) (drop (blockSize - at) s) map (drop blockSize pool) in
+    let not : o ≢ other = λ w. d (sym w ∙ e) in
+    ap (blockBytes other (o ∷ map)) (append-mine owner at o s map pool e) ∙ bytes-not other o map (block ++ rest) not
+    ∙ ap (blockBytes other map) (behind-block block rest pool same left)
+    ∙ append-others other owner (at - blockSize) (drop (blockSize - at) s) map (drop blockSize pool) d
+    ∙ sym (bytes-not other o map pool not))
+    (λ e.
+    let rest : List ℕ = appended owner at s map (drop blockSize pool) in
+    let left = append-length owner at s map (drop blockSize pool) in
+    ap (blockBytes other (o ∷ map)) (append-not owner at o s map pool e)
+    ∙ ap₂ (λ (a b : List ℕ). pick (eqb o other) (a ++ blockBytes other map b) (blockBytes other map b))
+    (front-block (take blockSize pool) rest pool refl left) (behind-block (take blockSize pool) rest pool refl left)
+    ∙ ap (λ (b : List ℕ). pick (eqb o other) (take blockSize pool ++ b) b) (append-others other owner at s map (drop blockSize pool) d))
+
+-- the bytes behind the last block stay
+pub append-behind : (owner at : ℕ) (s map pool : List ℕ) → drop (blockSize * length map) (appended owner at s map pool) ≡ drop (blockSize * length map) pool
+unfolding appended
+append-behind owner at s [] pool = refl
+append-behind owner at s (o ∷ map) pool =
+    let n : blockSize * suc (length map) ≡ blockSize + blockSize * length map = omega arith in
+    mine-cases o owner
+    (λ e.
+    let block : List ℕ = over at s (take blockSize pool) in
+    let rest : List ℕ = appended owner (at - blockSize) (drop (blockSize - at) s) map (drop blockSize pool) in
+    let same = over-length at s (take blockSize pool) in
+    let left = append-length owner (at - blockSize) (drop (blockSize - at) s) map (drop blockSize pool) in
+    rw n (ap (drop (blockSize + blockSize * length map)) (append-mine owner at o s map pool e)
+    ∙ sym (drop-drop (blockSize * length map) blockSize (block ++ rest)) ∙ ap (drop (blockSize * length map)) (behind-block block rest pool same left)
+    ∙ append-behind owner (at - blockSize) (drop (blockSize - at) s) map (drop blockSize pool) ∙ drop-drop (blockSize * length map) blockSize pool))
+    (λ e.
+    let rest : List ℕ = appended owner at s map (drop blockSize pool) in
+    let left = append-length owner at s map (drop blockSize pool) in
+    rw n (ap (drop (blockSize + blockSize * length map)) (append-not owner at o s map pool e)
+    ∙ sym (drop-drop (blockSize * length map) blockSize (take blockSize pool ++ rest))
+    ∙ ap (drop (blockSize * length map)) (behind-block (take blockSize pool) rest pool refl left)
+    ∙ append-behind owner at s map (drop blockSize pool) ∙ drop-drop (blockSize * length map) blockSize pool))
+
+-- ---- claiming and releasing: the pool is not touched
+
+-- a claim leaves the bytes of every other owner
+pub claim-bytes : (other owner n : ℕ) (map pool : List ℕ) → other ≢ owner → other ≢ free → blockBytes other (claimed owner n map) pool ≡ blockBytes other map pool
+unfolding blockBytes claimed
+claim-bytes other owner n [] pool d z = refl
+claim-bytes other owner n (o ∷ map) pool d z =
+    claim-cases n o
+    (λ e g.
+    ap (λ (m : List ℕ). blockBytes other m pool) (claim-taken owner n o map e g) ∙ bytes-not other owner (claimed owner (n - 1) map) pool (λ w. d (sym w))
+    ∙ claim-bytes other owner (n - 1) map (drop blockSize pool) d z ∙ sym (bytes-not other o map pool (λ w. z (sym w ∙ e))))
+    (λ e g.
+    ap (λ (m : List ℕ). blockBytes other m pool) (claim-enough owner n o map g)
+    ∙ ap (λ (b : List ℕ). pick (eqb o other) (take blockSize pool ++ b) b) (claim-bytes other owner n map (drop blockSize pool) d z))
+    (λ e.
+    ap (λ (m : List ℕ). blockBytes other m pool) (claim-held owner n o map e)
+    ∙ ap (λ (b : List ℕ). pick (eqb o other) (take blockSize pool ++ b) b) (claim-bytes other owner n map (drop blockSize pool) d z))
+
+-- the first blocks of a pool: one block, and n - 1 of what is behind it
+take-blocks : (n : ℕ) (pool rest : List ℕ) → 0 < n → (length pool < blockSize → rest ≡ [])
+    → take blockSize pool ++ take (blockSize * (n - 1)) rest ≡ take (blockSize * n) (take blockSize pool ++ rest)
+take-blocks n pool rest h none =
+    compare blockSize (length pool)
+    (λ g.
+    let full : length (take blockSize pool) ≡ blockSize = length-take-le blockSize pool g in
+    let e : blockSize * n ≡ length (take blockSize pool) + blockSize * (n - 1) = omega arith in
+    rw e (sym (take-append-add (take blockSize pool) rest (blockSize * (n - 1)))))
+    (λ g.
+    let short : length (take blockSize pool) ≤ blockSize * n = omega (arith, length-take blockSize pool) in
+    rw (none g, take-nil (blockSize * (n - 1)), append-nil (take blockSize pool)) (sym (take-all (blockSize * n) (take blockSize pool) short)))
+
+-- a new owner's bytes are those of the lowest n free blocks, as they were
+pub claim-found : (owner n : ℕ) (map pool : List ℕ) → owner ≢ free → heldBy owner map ≡ 0
+    → blockBytes owner (claimed owner n map) pool ≡ take (blockSize * n) (blockBytes free map pool)
+unfolding blockBytes claimed
+claim-found owner n [] pool h z = sym (take-nil (blockSize * n))
+claim-found owner n (o ∷ map) pool h z =
+    claim-cases n o
+    (λ e g.
+    let left : heldBy owner map ≡ 0 = sym (held-not owner o map (λ w. h (sym w ∙ e))) ∙ z in
+    ap (λ (m : List ℕ). blockBytes owner m pool) (claim-taken owner n o map e g) ∙ bytes-mine owner owner (claimed owner (n - 1) map) pool refl
+    ∙ ap (λ (b : List ℕ). take blockSize pool ++ b) (claim-found owner (n - 1) map (drop blockSize pool) h left)
+    ∙ take-blocks n pool (blockBytes free map (drop blockSize pool)) g (λ s. behind s)
+    ∙ ap (take (blockSize * n)) (sym (bytes-mine free o map pool e)))
+    (λ e g.
+    let left : heldBy owner map ≡ 0 = sym (held-not owner o map (λ w. h (sym w ∙ e))) ∙ z in
+    let none : blockSize * n ≡ 0 = omega arith in
+    ap (λ (m : List ℕ). blockBytes owner m pool) (claim-enough owner n o map g) ∙ bytes-not owner o (claimed owner n map) pool (λ w. h (sym w ∙ e))
+    ∙ claim-found owner n map (drop blockSize pool) h left ∙ rw none)
+    (λ e.
+    let other : o ≢ owner = λ w. omega (arith, held-mine owner o map w) in
+    let left : heldBy owner map ≡ 0 = sym (held-not owner o map other) ∙ z in
+    ap (λ (m : List ℕ). blockBytes owner m pool) (claim-held owner n o map e) ∙ bytes-not owner o (claimed owner n map) pool other
+    ∙ claim-found owner n map (drop blockSize pool) h left ∙ ap (take (blockSize * n)) (sym (bytes-not free o map pool e)))
+  where
+    behind : length pool < blockSize → blockBytes free map (drop blockSize pool) ≡ []
+    behind s =
+        let short : length pool ≤ blockSize = omega arith in
+        rw (drop-of-length-le pool {i = blockSize} short) (bytes-none free map)
+
+-- a release leaves the bytes of every owner that is not released
+pub release-bytes : (low high other : ℕ) (map pool : List ℕ) → other ≢ free → Outside low high other → blockBytes other (released low high map) pool ≡ blockBytes other map pool
+unfolding blockBytes released
+release-bytes low high other [] pool h d = refl
+release-bytes low high other (o ∷ map) pool h d =
+    let ih = release-bytes low high other map (drop blockSize pool) h d in
+    let same : blockBytes other (o ∷ released low high map) pool ≡ blockBytes other (o ∷ map) pool = ap (λ (b : List ℕ). pick (eqb o other) (take blockSize pool ++ b) b) ih in
+    release-cases low high o
+    (λ p q.
+    ap (λ (m : List ℕ). blockBytes other m pool) (release-hit low high o map p q) ∙ bytes-not other free (released low high map) pool (λ w. h (sym w)) ∙ ih
+    ∙ sym (bytes-not other o map pool (λ w. d (rw w at p) (rw w at q))))
+    (λ p. ap (λ (m : List ℕ). blockBytes other m pool) (release-below low high o map p) ∙ same)
+    (λ p. ap (λ (m : List ℕ). blockBytes other m pool) (release-above low high o map p) ∙ same)
+
+-- ---- delivery
+
+pub deliver-length : (owner due : ℕ) (map pool out : List ℕ) → length (delivered owner due map pool out) ≡ length out
+unfolding delivered
+deliver-length owner due map pool out = over-length 0 (take due (blockBytes owner map pool)) out
+
+-- where out has room, it begins with the first `due` bytes, and the rest stays
+pub deliver-laid : (owner due : ℕ) (map pool out : List ℕ) → due ≤ length out
+    → delivered owner due map pool out ≡ laid (take due (blockBytes owner map pool)) out
+unfolding delivered
+deliver-laid owner due map pool out h = over-front (take due (blockBytes owner map pool)) out (omega (arith, length-take due (blockBytes owner map pool)))
+
+-- where all that is due is there as well
+pub deliver-first : (owner due : ℕ) (map pool out : List ℕ) → due ≤ length out → due ≤ length (blockBytes owner map pool)
+    → take due (delivered owner due map pool out) ≡ take due (blockBytes owner map pool)
+deliver-first owner due map pool out h g =
+    ap (take due) (deliver-laid owner due map pool out h) ∙ take-at (take due (blockBytes owner map pool)) _ due (length-take-le due (blockBytes owner map pool) g)
+
+pub deliver-rest : (owner due : ℕ) (map pool out : List ℕ) → due ≤ length out → due ≤ length (blockBytes owner map pool)
+    → drop due (delivered owner due map pool out) ≡ drop due out
+deliver-rest owner due map pool out h g =
+    let full : length (take due (blockBytes owner map pool)) ≡ due = length-take-le due (blockBytes owner map pool) g in
+    ap (drop due) (deliver-laid owner due map pool out h) ∙ drop-at (take due (blockBytes owner map pool)) _ due full ∙ ap (λ (n : ℕ). drop n out) full
+
+-- ---- by index: block b starts at blockSize * b
+
+pub bytes-from : (b owner : ℕ) (map pool : List ℕ) → blockBytes owner map (drop (blockSize * b) pool) ≡ joined pool (numbersFrom b owner map)
+unfolding blockBytes joined numbersFrom
+bytes-from b owner [] pool = refl
+bytes-from b owner (o ∷ map) pool =
+    let n : blockSize * b + blockSize ≡ blockSize * suc b = omega arith in
+    let d : drop blockSize (drop (blockSize * b) pool) ≡ drop (blockSize * suc b) pool = drop-drop blockSize (blockSize * b) pool ∙ ap (λ (k : ℕ). drop k pool) n in
+    let ih : blockBytes owner map (drop blockSize (drop (blockSize * b) pool)) ≡ joined pool (numbersFrom (suc b) owner map) = rw d (bytes-from (suc b) owner map pool) in
+    mine-cases o owner
+    (λ e.
+    bytes-mine owner o map (drop (blockSize * b) pool) e ∙ ap (λ (t : List ℕ). take blockSize (drop (blockSize * b) pool) ++ t) ih
+    ∙ ap (joined pool) (sym (numbers-mine b owner o map e)))
+    (λ e. bytes-not owner o map (drop (blockSize * b) pool) e ∙ ih ∙ ap (joined pool) (sym (numbers-not b owner o map e)))
+
+pub bytes-by-number : (owner : ℕ) (map pool : List ℕ) → blockBytes owner map pool ≡ joined pool (blockNumbers owner map)
+bytes-by-number owner map pool = bytes-from 0 owner map pool

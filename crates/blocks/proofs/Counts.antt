@@ -1,0 +1,405 @@
+-- The laws of the block map, for any map: how many blocks each owner has after a claim and after a release, and which.
+-- By induction along the map. Assumes nothing.
+use Prim.Native.Nat.{ℕ, zero, suc, _+_, _-_, _*_, _≤_, _<_, min}
+use mathlib.Core.Path.{_≡_, refl, ap, ap₂, sym, _∙_}
+use mathlib.Core.Logic.{_≢_}
+use mathlib.Core.Bool.{_&&_}
+use mathlib.Core.List.{List, [], _∷_}
+use native.Mathlib.Omega.{arith}
+use lib.Dec.{eqb, ltb, leb}
+use lib.ListN.{length, take, drop, getD, replicate, length-replicate}
+use lib.Seq.{take-nil}
+use borrow.Author.Tests.{eqb-true, eqb-false, eq-eqb, ne-eqb, ltb-true, ltb-false, leb-true, leb-false, le-leb, lt-leb, lt-ltb, le-ltb}
+use Rattle.numbers.specs.Bytes.{pick, AreBytes}
+use Rattle.blocks.specs.Map.{blockSize, blockCount, free, neededFor, freeMap, heldBy, heldByAll, freeIn, claimed, released, numbersFrom, placeOf, Below, Outside}
+use Rattle.blocks.proofs.Over.{split}
+
+-- ---- blocks for so many bytes
+
+-- enough, and not one more than that
+pub needed-enough : (total : ℕ) → total ≤ blockSize * neededFor total
+unfolding neededFor
+needed-enough total = omega arith
+
+pub needed-least : (total : ℕ) → blockSize * neededFor total < total + blockSize
+unfolding neededFor
+needed-least total = omega arith
+
+pub needed-some : (total : ℕ) → 0 < total → 0 < neededFor total
+unfolding neededFor
+needed-some total h = omega arith
+
+pub needed-most : (total : ℕ) → total ≤ blockSize * blockCount → neededFor total ≤ blockCount
+unfolding neededFor
+needed-most total h = omega arith
+
+-- ---- the count of one entry
+
+-- one entry more
+pub held-mine : (owner o : ℕ) (map : List ℕ) → o ≡ owner → heldBy owner (o ∷ map) ≡ suc (heldBy owner map)
+unfolding heldBy
+held-mine owner o map e = rw (eq-eqb o owner e) (omega arith)
+
+pub held-not : (owner o : ℕ) (map : List ℕ) → o ≢ owner → heldBy owner (o ∷ map) ≡ heldBy owner map
+unfolding heldBy
+held-not owner o map h = rw (ne-eqb o owner h) (omega arith)
+
+-- at most all of them
+pub held-most : (owner : ℕ) (map : List ℕ) → heldBy owner map ≤ length map
+unfolding heldBy
+held-most owner [] = omega arith
+held-most owner (o ∷ map) = split (eqb o owner) (λ e. rw e (omega (arith, held-most owner map))) (λ e. rw e (omega (arith, held-most owner map)))
+
+-- ---- the map with every block free
+
+pub free-map-length : length freeMap ≡ blockCount
+unfolding freeMap
+free-map-length = length-replicate blockCount free
+
+all-free : (n : ℕ) → heldBy free (replicate n free) ≡ n
+unfolding heldBy
+all-free zero = refl
+all-free (suc n) = omega (arith, all-free n)
+
+none-held : (owner n : ℕ) → owner ≢ free → heldBy owner (replicate n free) ≡ 0
+unfolding heldBy
+none-held owner zero h = refl
+none-held owner (suc n) h = held-not owner free (replicate n free) (λ e. h (sym e)) ∙ none-held owner n h
+
+pub free-map-free : freeIn freeMap ≡ blockCount
+unfolding freeMap
+free-map-free = all-free blockCount
+
+pub free-map-held : (owner : ℕ) → owner ≢ free → heldBy owner freeMap ≡ 0
+unfolding freeMap
+free-map-held owner h = none-held owner blockCount h
+
+-- ---- claiming
+
+-- the three cases of an entry: it is taken; it is free and nothing is left to claim; it is not free
+pub claim-taken : (owner n o : ℕ) (map : List ℕ) → o ≡ free → 0 < n → claimed owner n (o ∷ map) ≡ owner ∷ claimed owner (n - 1) map
+unfolding claimed
+claim-taken owner n o map e h = rw (eq-eqb o free e, lt-ltb 0 n h)
+
+pub claim-enough : (owner n o : ℕ) (map : List ℕ) → n ≡ 0 → claimed owner n (o ∷ map) ≡ o ∷ claimed owner n map
+unfolding claimed
+claim-enough owner n o map e =
+    split (eqb o free) (λ t. rw (t, le-ltb 0 n (omega arith))) (λ t. rw t)
+
+pub claim-held : (owner n o : ℕ) (map : List ℕ) → o ≢ free → claimed owner n (o ∷ map) ≡ o ∷ claimed owner n map
+unfolding claimed
+claim-held owner n o map h = rw (ne-eqb o free h)
+
+-- cases on an entry of a claim
+pub claim-cases : {X : Type 0} (n o : ℕ) → (o ≡ free → 0 < n → X) → (o ≡ free → n ≡ 0 → X) → (o ≢ free → X) → X
+claim-cases n o f g h =
+    split (eqb o free)
+    (λ e. split (ltb 0 n) (λ t. f (eqb-true o free e) (ltb-true 0 n t)) (λ t. g (eqb-true o free e) (omega (arith, ltb-false 0 n t))))
+    (λ e. h (eqb-false o free e))
+
+-- nothing is claimed
+pub claim-none : (owner : ℕ) (map : List ℕ) → claimed owner 0 map ≡ map
+unfolding claimed
+claim-none owner [] = refl
+claim-none owner (o ∷ map) = claim-enough owner 0 o map refl ∙ ap (λ (t : List ℕ). o ∷ t) (claim-none owner map)
+
+pub claim-length : (owner n : ℕ) (map : List ℕ) → length (claimed owner n map) ≡ length map
+unfolding claimed
+claim-length owner n [] = refl
+claim-length owner n (o ∷ map) =
+    split (eqb o free && ltb 0 n) (λ e. rw e (ap suc (claim-length owner (n - 1) map))) (λ e. rw e (ap suc (claim-length owner n map)))
+
+-- the owner has n blocks more, or as many as were free
+pub claim-gives : (owner n : ℕ) (map : List ℕ) → owner ≢ free → heldBy owner (claimed owner n map) ≡ heldBy owner map + min n (freeIn map)
+unfolding heldBy claimed
+claim-gives owner n [] h = omega arith
+claim-gives owner n (o ∷ map) h =
+    claim-cases n o
+    (λ e g.
+    ap (heldBy owner) (claim-taken owner n o map e g) ∙ held-mine owner owner (claimed owner (n - 1) map) refl
+    ∙ omega (arith, claim-gives owner (n - 1) map h, held-not owner o map (λ w. h (sym w ∙ e)), held-mine free o map e))
+    (λ e g.
+    ap (heldBy owner) (claim-enough owner n o map g) ∙ held-not owner o (claimed owner n map) (λ w. h (sym w ∙ e))
+    ∙ omega (arith, claim-gives owner n map h, held-not owner o map (λ w. h (sym w ∙ e)), held-mine free o map e))
+    (λ e.
+    ap (heldBy owner) (claim-held owner n o map e)
+    ∙ split (eqb o owner)
+    (λ t. omega (arith, claim-gives owner n map h, held-mine owner o (claimed owner n map) (eqb-true o owner t), held-mine owner o map (eqb-true o owner t), held-not free o map e))
+    (λ t. omega (arith, claim-gives owner n map h, held-not owner o (claimed owner n map) (eqb-false o owner t), held-not owner o map (eqb-false o owner t), held-not free o map e)))
+
+-- so many fewer are free
+pub claim-lowers : (owner n : ℕ) (map : List ℕ) → owner ≢ free → freeIn (claimed owner n map) ≡ freeIn map - n
+unfolding heldBy claimed
+claim-lowers owner n [] h = omega arith
+claim-lowers owner n (o ∷ map) h =
+    claim-cases n o
+    (λ e g.
+    ap (heldBy free) (claim-taken owner n o map e g) ∙ held-not free owner (claimed owner (n - 1) map) h
+    ∙ omega (arith, claim-lowers owner (n - 1) map h, held-mine free o map e))
+    (λ e g.
+    ap (heldBy free) (claim-enough owner n o map g) ∙ held-mine free o (claimed owner n map) e
+    ∙ omega (arith, claim-lowers owner n map h, held-mine free o map e))
+    (λ e.
+    ap (heldBy free) (claim-held owner n o map e) ∙ held-not free o (claimed owner n map) e
+    ∙ omega (arith, claim-lowers owner n map h, held-not free o map e))
+
+-- every other owner has as many as before
+pub claim-leaves : (other owner n : ℕ) (map : List ℕ) → other ≢ owner → other ≢ free → heldBy other (claimed owner n map) ≡ heldBy other map
+unfolding heldBy claimed
+claim-leaves other owner n [] d z = refl
+claim-leaves other owner n (o ∷ map) d z =
+    claim-cases n o
+    (λ e g.
+    ap (heldBy other) (claim-taken owner n o map e g) ∙ held-not other owner (claimed owner (n - 1) map) (λ w. d (sym w))
+    ∙ claim-leaves other owner (n - 1) map d z ∙ sym (held-not other o map (λ w. z (sym w ∙ e))))
+    (λ e g. ap (heldBy other) (claim-enough owner n o map g) ∙ ap (λ (k : ℕ). pick (eqb o other) 1 0 + k) (claim-leaves other owner n map d z))
+    (λ e. ap (heldBy other) (claim-held owner n o map e) ∙ ap (λ (k : ℕ). pick (eqb o other) 1 0 + k) (claim-leaves other owner n map d z))
+
+-- if n are free, a new owner has exactly n blocks, and n fewer are free
+pub record Claims (owner n : ℕ) (map after : List ℕ) : Type 0 where
+  pub holds : heldBy owner after ≡ n
+  pub spare : freeIn after + n ≡ freeIn map
+  pub others : (other : ℕ) → other ≢ owner → other ≢ free → heldBy other after ≡ heldBy other map
+  pub size : length after ≡ length map
+
+pub claim-new : (owner n : ℕ) (map : List ℕ) → owner ≢ free → heldBy owner map ≡ 0 → n ≤ freeIn map → Claims owner n map (claimed owner n map)
+claim-new owner n map h e g = record {
+  holds = omega (arith, claim-gives owner n map h);
+  spare = omega (arith, claim-lowers owner n map h);
+  others = λ other d z. claim-leaves other owner n map d z;
+  size = claim-length owner n map;
+}
+
+-- ---- releasing
+
+pub release-hit : (low high o : ℕ) (map : List ℕ) → low ≤ o → o ≤ high → released low high (o ∷ map) ≡ free ∷ released low high map
+unfolding released
+release-hit low high o map a b = rw (le-leb low o a, le-leb o high b)
+
+pub release-below : (low high o : ℕ) (map : List ℕ) → o < low → released low high (o ∷ map) ≡ o ∷ released low high map
+unfolding released
+release-below low high o map a = rw (lt-leb low o a)
+
+pub release-above : (low high o : ℕ) (map : List ℕ) → high < o → released low high (o ∷ map) ≡ o ∷ released low high map
+unfolding released
+release-above low high o map a = split (leb low o) (λ e. rw (e, lt-leb o high a)) (λ e. rw e)
+
+pub release-cases : {X : Type 0} (low high o : ℕ) → (low ≤ o → o ≤ high → X) → (o < low → X) → (high < o → X) → X
+release-cases low high o f g h =
+    split (leb low o)
+    (λ e. split (leb o high) (λ t. f (leb-true low o e) (leb-true o high t)) (λ t. h (leb-false o high t)))
+    (λ e. g (leb-false low o e))
+
+pub release-length : (low high : ℕ) (map : List ℕ) → length (released low high map) ≡ length map
+unfolding released
+release-length low high [] = refl
+release-length low high (o ∷ map) = ap suc (release-length low high map)
+
+-- the owners of the range have none
+pub release-takes : (low high owner : ℕ) (map : List ℕ) → owner ≢ free → low ≤ owner → owner ≤ high → heldBy owner (released low high map) ≡ 0
+unfolding heldBy released
+release-takes low high owner [] h a b = refl
+release-takes low high owner (o ∷ map) h a b =
+    let ih = release-takes low high owner map h a b in
+    release-cases low high o
+    (λ p q. ap (heldBy owner) (release-hit low high o map p q) ∙ held-not owner free (released low high map) (λ w. h (sym w)) ∙ ih)
+    (λ p. ap (heldBy owner) (release-below low high o map p) ∙ held-not owner o (released low high map) (omega arith) ∙ ih)
+    (λ p. ap (heldBy owner) (release-above low high o map p) ∙ held-not owner o (released low high map) (omega arith) ∙ ih)
+
+-- every other owner has as many as before
+pub release-leaves : (low high other : ℕ) (map : List ℕ) → other ≢ free → Outside low high other → heldBy other (released low high map) ≡ heldBy other map
+unfolding heldBy released
+release-leaves low high other [] h d = refl
+release-leaves low high other (o ∷ map) h d =
+    let ih = release-leaves low high other map h d in
+    let same : pick (eqb o other) 1 0 + heldBy other (released low high map) ≡ heldBy other (o ∷ map) = ap (λ (k : ℕ). pick (eqb o other) 1 0 + k) ih in
+    release-cases low high o
+    (λ p q.
+    ap (heldBy other) (release-hit low high o map p q) ∙ held-not other free (released low high map) (λ w. h (sym w)) ∙ ih
+    ∙ sym (held-not other o map (λ w. d (rw w at p) (rw w at q))))
+    (λ p. ap (heldBy other) (release-below low high o map p) ∙ same)
+    (λ p. ap (heldBy other) (release-above low high o map p) ∙ same)
+
+-- how many of the owners from `first` on hold a block: one entry more
+all-miss : (first n o : ℕ) (map : List ℕ) → (first ≤ o → o < first + n → ⊥) → heldByAll first n (o ∷ map) ≡ heldByAll first n map
+unfolding heldByAll
+all-miss first zero o map h = refl
+all-miss first (suc n) o map h =
+    omega (arith, held-not first o map (λ e. h (omega arith) (omega arith)), all-miss (suc first) n o map (λ a b. h (omega arith) (omega arith)))
+
+all-hit : (first n o : ℕ) (map : List ℕ) → first ≤ o → o < first + n → heldByAll first n (o ∷ map) ≡ suc (heldByAll first n map)
+unfolding heldByAll
+all-hit first zero o map a b = absurd (omega arith)
+all-hit first (suc n) o map a b =
+    split (eqb o first)
+    (λ t. omega (arith, held-mine first o map (eqb-true o first t), all-miss (suc first) n o map (λ p q. omega (arith, eqb-true o first t))))
+    (λ t. omega (arith, held-not first o map (eqb-false o first t), all-hit (suc first) n o map (omega (arith, eqb-false o first t)) (omega arith)))
+
+all-none : (first n : ℕ) → heldByAll first n [] ≡ 0
+unfolding heldByAll heldBy
+all-none first zero = refl
+all-none first (suc n) = omega (arith, all-none (suc first) n)
+
+-- the blocks of the owners from low to high are free as well
+pub release-raises : (low high : ℕ) (map : List ℕ) → free < low → freeIn (released low high map) ≡ freeIn map + heldByAll low (suc high - low) map
+unfolding heldBy released
+release-raises low high [] h = omega (arith, all-none low (suc high - low))
+release-raises low high (o ∷ map) h =
+    let ih = release-raises low high map h in
+    release-cases low high o
+    (λ p q.
+    ap (heldBy free) (release-hit low high o map p q) ∙ held-mine free free (released low high map) refl
+    ∙ omega (arith, ih, held-not free o map (omega arith), all-hit low (suc high - low) o map p (omega arith)))
+    (λ p. ap (heldBy free) (release-below low high o map p) ∙ omega (arith, ih, all-miss low (suc high - low) o map (omega arith)))
+    (λ p. ap (heldBy free) (release-above low high o map p) ∙ omega (arith, ih, all-miss low (suc high - low) o map (omega arith)))
+
+-- one owner's blocks
+pub release-one : (owner : ℕ) (map : List ℕ) → owner ≢ free → freeIn (released owner owner map) ≡ freeIn map + heldBy owner map
+unfolding heldByAll
+release-one owner map h =
+    let e : suc owner - owner ≡ 1 = omega arith in
+    release-raises owner owner map (omega arith) ∙ rw e (omega arith)
+
+-- ---- all owners together
+
+-- the blocks of all owners below a bound, the free ones among them, are all blocks
+pub counts-below : (bound : ℕ) (map : List ℕ) → Below bound map → heldByAll 0 bound map ≡ length map
+counts-below bound [] h = all-none 0 bound
+counts-below bound (o ∷ map) h = all-hit 0 bound o map (omega arith) (omega arith) ∙ ap suc (counts-below bound map (h .1))
+
+-- the bytes of a slice are owners below 256
+pub counts-all : (map : List ℕ) → AreBytes map → heldByAll 0 256 map ≡ length map
+counts-all map h = counts-below 256 map (bytes-below map h)
+  where
+    bytes-below : (map : List ℕ) → AreBytes map → Below 256 map
+    bytes-below [] h = tt
+    bytes-below (o ∷ map) h = (h .0, bytes-below map (h .1))
+
+-- ---- block numbers
+
+pub numbers-mine : (b owner o : ℕ) (map : List ℕ) → o ≡ owner → numbersFrom b owner (o ∷ map) ≡ b ∷ numbersFrom (suc b) owner map
+unfolding numbersFrom
+numbers-mine b owner o map e = rw (eq-eqb o owner e)
+
+pub numbers-not : (b owner o : ℕ) (map : List ℕ) → o ≢ owner → numbersFrom b owner (o ∷ map) ≡ numbersFrom (suc b) owner map
+unfolding numbersFrom
+numbers-not b owner o map h = rw (ne-eqb o owner h)
+
+-- as many as blocks are held
+pub numbers-length : (b owner : ℕ) (map : List ℕ) → length (numbersFrom b owner map) ≡ heldBy owner map
+unfolding numbersFrom heldBy
+numbers-length b owner [] = refl
+numbers-length b owner (o ∷ map) =
+    split (eqb o owner)
+    (λ e. rw e (omega (arith, numbers-length (suc b) owner map)))
+    (λ e. rw e (omega (arith, numbers-length (suc b) owner map)))
+
+-- a new owner's blocks are the lowest n of the free ones
+pub claim-lowest : (b owner n : ℕ) (map : List ℕ) → owner ≢ free → heldBy owner map ≡ 0 → numbersFrom b owner (claimed owner n map) ≡ take n (numbersFrom b free map)
+unfolding numbersFrom claimed
+claim-lowest b owner n [] h z = sym (take-nil n)
+claim-lowest b owner n (o ∷ map) h z =
+    claim-cases n o
+    (λ e g.
+    let m : suc (n - 1) ≡ n = omega arith in
+    let zero-left : heldBy owner map ≡ 0 = sym (held-not owner o map (λ w. h (sym w ∙ e))) ∙ z in
+    ap (numbersFrom b owner) (claim-taken owner n o map e g) ∙ numbers-mine b owner owner (claimed owner (n - 1) map) refl
+    ∙ ap (λ (t : List ℕ). b ∷ t) (claim-lowest (suc b) owner (n - 1) map h zero-left)
+    ∙ ap (λ (k : ℕ). take k (b ∷ numbersFrom (suc b) free map)) m ∙ ap (take n) (sym (numbers-mine b free o map e)))
+    (λ e g.
+    let zero-left : heldBy owner map ≡ 0 = sym (held-not owner o map (λ w. h (sym w ∙ e))) ∙ z in
+    ap (numbersFrom b owner) (claim-enough owner n o map g) ∙ numbers-not b owner o (claimed owner n map) (λ w. h (sym w ∙ e))
+    ∙ claim-lowest (suc b) owner n map h zero-left
+    ∙ ap (λ (k : ℕ). take k (numbersFrom (suc b) free map)) g ∙ sym (ap (λ (k : ℕ). take k (numbersFrom b free (o ∷ map))) g))
+    (λ e.
+    let other : o ≢ owner = λ w. omega (arith, held-mine owner o map w) in
+    let zero-left : heldBy owner map ≡ 0 = sym (held-not owner o map other) ∙ z in
+    ap (numbersFrom b owner) (claim-held owner n o map e) ∙ numbers-not b owner o (claimed owner n map) other
+    ∙ claim-lowest (suc b) owner n map h zero-left ∙ ap (take n) (sym (numbers-not b free o map e)))
+
+-- ---- the place of an owner's block
+
+pub place-here : (owner n o : ℕ) (map : List ℕ) → o ≡ owner → n ≡ 0 → placeOf owner n (o ∷ map) ≡ 0
+unfolding placeOf
+place-here owner n o map e z = rw (eq-eqb o owner e, eq-eqb n 0 z)
+
+pub place-later : (owner n o : ℕ) (map : List ℕ) → o ≡ owner → n ≢ 0 → placeOf owner n (o ∷ map) ≡ suc (placeOf owner (n - 1) map)
+unfolding placeOf
+place-later owner n o map e z = rw (eq-eqb o owner e, ne-eqb n 0 z)
+
+pub place-not : (owner n o : ℕ) (map : List ℕ) → o ≢ owner → placeOf owner n (o ∷ map) ≡ suc (placeOf owner n map)
+unfolding placeOf
+place-not owner n o map h = rw (ne-eqb o owner h)
+
+pub place-cases : {X : Type 0} (owner n o : ℕ) → (o ≡ owner → n ≡ 0 → X) → (o ≡ owner → n ≢ 0 → X) → (o ≢ owner → X) → X
+place-cases owner n o f g h =
+    split (eqb o owner)
+    (λ e. split (eqb n 0) (λ t. f (eqb-true o owner e) (eqb-true n 0 t)) (λ t. g (eqb-true o owner e) (eqb-false n 0 t)))
+    (λ e. h (eqb-false o owner e))
+
+-- inside the map, or its end
+pub place-most : (owner n : ℕ) (map : List ℕ) → placeOf owner n map ≤ length map
+unfolding placeOf
+place-most owner n [] = omega arith
+place-most owner n (o ∷ map) =
+    place-cases owner n o
+    (λ e z. omega (arith, place-here owner n o map e z))
+    (λ e z. omega (arith, place-later owner n o map e z, place-most owner (n - 1) map))
+    (λ e. omega (arith, place-not owner n o map e, place-most owner n map))
+
+-- the block there is the owner's
+pub place-owner : (owner n : ℕ) (map : List ℕ) → placeOf owner n map < length map → getD map (placeOf owner n map) 0 ≡ owner
+unfolding placeOf
+place-owner owner n [] h = absurd (omega arith)
+place-owner owner n (o ∷ map) h =
+    place-cases owner n o
+    (λ e z. ap (λ (k : ℕ). getD (o ∷ map) k 0) (place-here owner n o map e z) ∙ e)
+    (λ e z. let p = place-later owner n o map e z in ap (λ (k : ℕ). getD (o ∷ map) k 0) p ∙ place-owner owner (n - 1) map (omega arith))
+    (λ e. let p = place-not owner n o map e in ap (λ (k : ℕ). getD (o ∷ map) k 0) p ∙ place-owner owner n map (omega arith))
+
+-- the first c entries hold too few
+pub place-skip : (owner n c : ℕ) (map : List ℕ) → c ≤ length map → heldBy owner (take c map) ≤ n
+    → placeOf owner n map ≡ c + placeOf owner (n - heldBy owner (take c map)) (drop c map)
+unfolding heldBy
+place-skip owner n zero map h g =
+    let e : n - 0 ≡ n = omega arith in
+    rw e (omega arith)
+place-skip owner n (suc c) [] h g = absurd (omega arith)
+place-skip owner n (suc c) (o ∷ map) h g =
+    place-cases owner n o
+    (λ e z. absurd (omega (arith, held-mine owner o (take c map) e)))
+    (λ e z.
+    let m = held-mine owner o (take c map) e in
+    let k : n - heldBy owner (o ∷ take c map) ≡ n - 1 - heldBy owner (take c map) = omega arith in
+    place-later owner n o map e z ∙ ap suc (place-skip owner (n - 1) c map (omega arith) (omega arith))
+    ∙ rw (← k) (omega arith))
+    (λ e.
+    let m = held-not owner o (take c map) e in
+    let k : n - heldBy owner (o ∷ take c map) ≡ n - heldBy owner (take c map) = omega arith in
+    place-not owner n o map e ∙ ap suc (place-skip owner n c map (omega arith) (omega arith))
+    ∙ rw (← k) (omega arith))
+
+-- the numbers of an owner's blocks are their places, in order
+pub place-number : (b owner n : ℕ) (map : List ℕ) → n < heldBy owner map → getD (numbersFrom b owner map) n 0 ≡ b + placeOf owner n map
+unfolding heldBy numbersFrom
+place-number b owner n [] h = absurd (omega arith)
+place-number b owner n (o ∷ map) h =
+    place-cases owner n o
+    (λ e z. ap₂ (λ (l : List ℕ) (k : ℕ). getD l k 0) (numbers-mine b owner o map e) z ∙ omega (arith, place-here owner n o map e z))
+    (λ e z.
+    let m : n ≡ suc (n - 1) = omega arith in
+    ap₂ (λ (l : List ℕ) (k : ℕ). getD l k 0) (numbers-mine b owner o map e) m
+    ∙ place-number (suc b) owner (n - 1) map (omega (arith, held-mine owner o map e)) ∙ omega (arith, place-later owner n o map e z))
+    (λ e.
+    ap (λ (l : List ℕ). getD l n 0) (numbers-not b owner o map e)
+    ∙ place-number (suc b) owner n map (omega (arith, held-not owner o map e)) ∙ omega (arith, place-not owner n o map e))
+
+-- there is no such block
+pub place-missing : (owner n : ℕ) (map : List ℕ) → heldBy owner map ≤ n → placeOf owner n map ≡ length map
+unfolding heldBy placeOf
+place-missing owner n [] h = refl
+place-missing owner n (o ∷ map) h =
+    place-cases owner n o
+    (λ e z. absurd (omega (arith, held-mine owner o map e)))
+    (λ e z. place-later owner n o map e z ∙ ap suc (place-missing owner (n - 1) map (omega (arith, held-mine owner o map e))))
+    (λ e. place-not owner n o map e ∙ ap suc (place-missing owner n map (omega (arith, held-not owner o map e))))

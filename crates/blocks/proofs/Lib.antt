@@ -1,0 +1,6 @@
+pub mod Over
+pub mod Counts
+pub mod Contents
+mod Turns
+mod Steps
+mod Cases

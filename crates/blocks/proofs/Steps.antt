@@ -1,0 +1,479 @@
+-- The steps of appending and delivering: blocks that are passed over, one block's share, and the rest on what is behind that block.
+-- By induction along the map up to the block, and by the laws of parts. Assumes nothing.
+use Prim.Native.Nat.{ℕ, suc, _+_, _-_, _*_, _/_, _%_, _<_, _≤_, min}
+use mathlib.Core.Path.{_≡_, refl, ap, ap₂, sym, _∙_}
+use mathlib.Core.Logic.{_≢_}
+use mathlib.Core.Bool.{Bool, true, false}
+use mathlib.Core.List.{List, [], _∷_, _++_, append-assoc, append-nil}
+use native.Mathlib.Numerals.{add-one}
+use native.Mathlib.Omega.{arith}
+use lib.Dec.{ltb}
+use lib.ListN.{length, take, drop, getD, length-append, length-take, length-drop, drop-of-length-le, take-append-drop}
+use lib.Seq.{take-nil, drop-nil, take-all, take-take, take-add, take-at, drop-at, drop-drop, drop-cons, length-take-le, take-append-le, take-append-add, drop-append-add}
+use borrow.Author.Tests.{lt-ltb, le-ltb, ltb-true, ltb-false}
+use borrow.Rule.Slice.PartMut.{putMid}
+use Rattle.blocks.specs.Map.{blockSize, neededFor, placeOf}
+use Rattle.blocks.specs.Pool.{appendedFrom, blockBytes, over, appended, delivered}
+use Rattle.blocks.proofs.Over.{compare, over-length, over-past, over-nothing, over-behind, over-parts, over-pieces}
+use Rattle.blocks.proofs.Counts.{place-here, place-later, place-not, place-cases, place-owner}
+use Rattle.blocks.proofs.Contents.{bytes-mine, bytes-not, bytes-none, append-mine, append-not, append-length}
+use Rattle.blocks.proofs.Turns.{part-behind, rest-place}
+
+-- ---- parts
+
+-- a block starts inside so many bytes exactly if its number is below the blocks that they need
+pub inside-needed : (k n : ℕ) → ltb k (neededFor n) ≡ ltb (blockSize * k) n
+unfolding neededFor
+inside-needed k n =
+    compare n (blockSize * k)
+    (λ h. le-ltb k ((n + 255) / 256) (omega arith) ∙ sym (le-ltb (blockSize * k) n h))
+    (λ h. lt-ltb k ((n + 255) / 256) (omega arith) ∙ sym (lt-ltb (blockSize * k) n h))
+
+-- what code's test shows
+pub starts : (k n : ℕ) (t : Bool) → t ≡ ltb (blockSize * k) n → t ≡ true → blockSize * k < n
+starts k n t e f = ltb-true (blockSize * k) n (sym e ∙ f)
+
+pub ends : (k n : ℕ) (t : Bool) → t ≡ ltb (blockSize * k) n → t ≡ false → n ≤ blockSize * k
+ends k n t e f = ltb-false (blockSize * k) n (sym e ∙ f)
+
+-- the bytes behind a block that may be the last, and cut short
+pub behind-short : (pool : List ℕ) (start size : ℕ) → size ≡ min blockSize (length pool - start) → drop (start + size) pool ≡ drop blockSize (drop start pool)
+behind-short pool start size e =
+    compare blockSize (length pool - start)
+    (λ h. let z : size ≡ blockSize = omega arith in rw z (sym (drop-drop blockSize start pool)))
+    (λ h.
+    let a : length pool ≤ start + size = omega arith in
+    let b : length pool ≤ start + blockSize = omega arith in
+    drop-of-length-le pool {i = start + size} a ∙ sym (drop-drop blockSize start pool ∙ drop-of-length-le pool {i = start + blockSize} b))
+
+-- such a block itself, as code lends it
+pub block-short : (pool : List ℕ) (start size : ℕ) → size ≡ min blockSize (length pool - start) → take (start + size - start) (drop start pool) ≡ take blockSize (drop start pool)
+block-short pool start size e =
+    let z : start + size - start ≡ size = omega arith in
+    let l : length (drop start pool) ≡ length pool - start = length-drop start pool in
+    rw z (compare blockSize (length pool - start)
+    (λ h. let q : size ≡ blockSize = omega arith in rw q)
+    (λ h. let a : length (drop start pool) ≤ size = omega arith in let b : length (drop start pool) ≤ blockSize = omega arith in take-all size (drop start pool) a ∙ sym (take-all blockSize (drop start pool) b)))
+
+pub block-length : (pool : List ℕ) (start size : ℕ) → size ≡ min blockSize (length pool - start) → length (take blockSize (drop start pool)) ≡ size
+block-length pool start size e = length-take blockSize (drop start pool) ∙ omega (arith, length-drop start pool)
+
+-- some of what is due lies in a block that starts inside the pool: the bytes still due fall
+pub due-falls : (due n size start bytes : ℕ) → (due ≡ 0 → ⊥) → start < bytes → size ≡ min blockSize (bytes - start) → n ≡ min size due → due - n < due
+due-falls due n size start bytes h inside sized least = omega arith
+
+-- ---- putting bytes over others, in the parts that code lends
+
+pub overwritten : (s l r : List ℕ) (at n : ℕ) → at < length l → n ≡ min (length s) (length l - at)
+    → r ≡ take (length (take (n - 0) (drop 0 s))) (take (n - 0) (drop 0 s)) ++ drop (length (take (n - 0) (drop 0 s))) (take (at + n - at) (drop at l))
+    → putMid at (at + n - at) l r ≡ over at s l
+overwritten s l r at n h e f =
+    let z : at + n - at ≡ n = omega arith in
+    let y : n - 0 ≡ n = omega arith in
+    let long : length (take n s) ≡ n = length-take-le n s (omega arith) in
+    let short : length (take n (drop at l)) ≤ n = omega (arith, length-take n (drop at l)) in
+    let all : take n (take n s) ≡ take n s = take-take n n s (omega arith) in
+    let none : drop n (take n (drop at l)) ≡ [] = drop-of-length-le (take n (drop at l)) {i = n} short in
+    let g : r ≡ take n s = f ∙ rw (y, z, long, all, none) (append-nil (take n s)) in
+    rw (z, g, drop-drop n at l) (sym (over-parts at n s l (omega arith) e))
+
+-- ---- blocks that are passed over
+
+-- up to the owner's block at the place n nothing changes
+pub append-skip : (owner n off at k : ℕ) (s map pool : List ℕ) → at ≡ blockSize * n + off → k ≡ placeOf owner n map
+    → appended owner at s map pool ≡ take (blockSize * k) pool ++ appended owner off s (drop k map) (drop (blockSize * k) pool)
+unfolding appended placeOf
+append-skip owner n off at k s [] pool f g =
+    rw (drop-nil k) (sym (take-append-drop (blockSize * k) pool))
+append-skip owner n off at k s (o ∷ map) pool f g =
+    place-cases owner n o
+    (λ e z.
+    let q : k ≡ 0 = g ∙ place-here owner n o map e z in
+    let p : at ≡ off = omega arith in
+    rw (q, p))
+    (λ e z.
+    let q : k ≡ suc (placeOf owner (n - 1) map) = g ∙ place-later owner n o map e z in
+    let full : length (take blockSize pool) ≤ at = omega (arith, length-take blockSize pool) in
+    let none : blockSize - at ≡ 0 = omega arith in
+    let less : at - blockSize ≡ blockSize * (n - 1) + off = omega arith in
+    append-mine owner at o s map pool e
+    ∙ ap₂ (λ (a b : List ℕ). a ++ b) (over-past at s (take blockSize pool) full)
+    (ap (λ (i : ℕ). appended owner (at - blockSize) (drop i s) map (drop blockSize pool)) none
+    ∙ append-skip owner (n - 1) off (at - blockSize) (placeOf owner (n - 1) map) s map (drop blockSize pool) less refl)
+    ∙ further owner off s map pool o (placeOf owner (n - 1) map) k q)
+    (λ e.
+    let q : k ≡ suc (placeOf owner n map) = g ∙ place-not owner n o map e in
+    append-not owner at o s map pool e
+    ∙ ap (λ (b : List ℕ). take blockSize pool ++ b) (append-skip owner n off at (placeOf owner n map) s map (drop blockSize pool) f refl)
+    ∙ further owner off s map pool o (placeOf owner n map) k q)
+  where
+    further : (owner off : ℕ) (s map pool : List ℕ) (o j k : ℕ) → k ≡ suc j
+        → take blockSize pool ++ (take (blockSize * j) (drop blockSize pool) ++ appended owner off s (drop j map) (drop (blockSize * j) (drop blockSize pool)))
+        ≡ take (blockSize * k) pool ++ appended owner off s (drop k (o ∷ map)) (drop (blockSize * k) pool)
+    further owner off s map pool o j k q =
+        let m : blockSize * k ≡ blockSize + blockSize * j = omega arith in
+        rw (m, q, take-add blockSize (blockSize * j) pool, drop-drop (blockSize * j) blockSize pool) (sym (append-assoc (take blockSize pool) (take (blockSize * j) (drop blockSize pool)) _))
+
+-- nothing is appended, or there is nothing to append to
+pub append-nothing : (owner at : ℕ) (map pool : List ℕ) → appended owner at [] map pool ≡ pool
+unfolding appended
+append-nothing owner at [] pool = refl
+append-nothing owner at (o ∷ map) pool =
+    compareOwner
+    (λ e.
+    append-mine owner at o [] map pool e
+    ∙ ap₂ (λ (a b : List ℕ). a ++ b) (over-nothing at (take blockSize pool))
+    (ap (λ (t : List ℕ). appended owner (at - blockSize) t map (drop blockSize pool)) (drop-nil (blockSize - at)) ∙ append-nothing owner (at - blockSize) map (drop blockSize pool))
+    ∙ take-append-drop blockSize pool)
+    (λ e. append-not owner at o [] map pool e ∙ ap (λ (b : List ℕ). take blockSize pool ++ b) (append-nothing owner at map (drop blockSize pool)) ∙ take-append-drop blockSize pool)
+  where
+    compareOwner : {X : Type 0} → (o ≡ owner → X) → (o ≢ owner → X) → X
+    compareOwner f g = place-cases owner 0 o (λ e z. f e) (λ e z. f e) g
+
+nil-of : (l : List ℕ) → length l ≡ 0 → l ≡ []
+nil-of [] e = refl
+nil-of (x ∷ l) e = absurd (omega arith)
+
+pub append-nowhere : (owner at : ℕ) (s map : List ℕ) → appended owner at s map [] ≡ []
+append-nowhere owner at s map = nil-of (appended owner at s map []) (append-length owner at s map [])
+
+-- the owner's first block, and the map behind it
+first-block : (owner : ℕ) (map : List ℕ) (k : ℕ) → k ≡ placeOf owner 0 map → k < length map → drop k map ≡ owner ∷ drop (suc k) map
+first-block owner map k is below =
+    let h : placeOf owner 0 map < length map = omega arith in
+    drop-cons map k 0 below ∙ ap (λ (o : ℕ). o ∷ drop (suc k) map) (ap (λ (i : ℕ). getD map i 0) is ∙ place-owner owner 0 map h)
+
+-- ---- appending, from the owner's first block on
+
+module _ (owner at : ℕ) (s map pool : List ℕ) (k : ℕ) (is : k ≡ placeOf owner 0 map) where
+  skipped : appended owner at s map pool ≡ take (blockSize * k) pool ++ appended owner at s (drop k map) (drop (blockSize * k) pool)
+  skipped = append-skip owner 0 at at k s map pool (omega arith) is
+
+  -- the owner has no block
+  pub append-no-block : length map ≤ k → pool ≡ appended owner at s map pool
+  unfolding appended
+  append-no-block h = sym (skipped ∙ rw (drop-of-length-le map {i = k} h) (take-append-drop (blockSize * k) pool))
+
+  -- its first block lies past the pool's end
+  pub append-no-pool : length pool ≤ blockSize * k → pool ≡ appended owner at s map pool
+  append-no-pool h =
+      sym (skipped ∙ rw (drop-of-length-le pool {i = blockSize * k} h) (ap₂ (λ (a b : List ℕ). a ++ b) (take-all (blockSize * k) pool h) (append-nowhere owner at s (drop k map)) ∙ append-nil pool))
+
+  module _ (below : k < length map) where
+    -- this block's share, and the rest
+    append-share : appended owner at s map pool
+        ≡ take (blockSize * k) pool ++ (over at s (take blockSize (drop (blockSize * k) pool))
+        ++ appended owner (at - blockSize) (drop (blockSize - at) s) (drop (suc k) map) (drop blockSize (drop (blockSize * k) pool)))
+    append-share =
+        skipped ∙ ap (λ (t : List ℕ). take (blockSize * k) pool ++ t)
+        (ap (λ (m : List ℕ). appended owner at s m (drop (blockSize * k) pool)) (first-block owner map k is below) ∙ append-mine owner at owner s (drop (suc k) map) (drop (blockSize * k) pool) refl)
+
+-- ---- appending, from a block on
+
+regroup : (a b c d : List ℕ) → a ++ (b ++ (c ++ d)) ≡ (a ++ b ++ c) ++ d
+regroup a b c d = simp append-assoc
+
+module _ (owner b at : ℕ) (s map pool : List ℕ) (k : ℕ) (is : k ≡ b + placeOf owner 0 (drop b map)) where
+  -- the owner has no block there
+  pub from-no-block : length map ≤ k → pool ≡ appendedFrom owner b at s map pool
+  unfolding appendedFrom
+  from-no-block h =
+      let none : length (drop b map) ≤ placeOf owner 0 (drop b map) = omega (arith, length-drop b map) in
+      sym (ap (λ (t : List ℕ). take (blockSize * b) pool ++ t) (sym (append-no-block owner at s (drop b map) (drop (blockSize * b) pool) (placeOf owner 0 (drop b map)) refl none))
+      ∙ take-append-drop (blockSize * b) pool)
+
+  -- its block lies past the pool's end
+  pub from-no-pool : length pool ≤ blockSize * k → pool ≡ appendedFrom owner b at s map pool
+  unfolding appendedFrom
+  from-no-pool h =
+      let none : length (drop (blockSize * b) pool) ≤ blockSize * placeOf owner 0 (drop b map) = omega (arith, length-drop (blockSize * b) pool) in
+      sym (ap (λ (t : List ℕ). take (blockSize * b) pool ++ t) (sym (append-no-pool owner at s (drop b map) (drop (blockSize * b) pool) (placeOf owner 0 (drop b map)) refl none))
+      ∙ take-append-drop (blockSize * b) pool)
+
+  module _ (below : k < length map) (start size : ℕ) (begins : start ≡ blockSize * k) (fits : start ≤ length pool) (sized : size ≡ min blockSize (length pool - start)) where
+    block : List ℕ
+    block = over at s (take blockSize (drop start pool))
+
+    -- this block's share, and the rest
+    from-share : appendedFrom owner b at s map pool
+        ≡ (take start pool ++ block) ++ appended owner (at - blockSize) (drop (blockSize - at) s) (drop (k + 1) map) (drop blockSize (drop start pool))
+    unfolding appendedFrom block
+    from-share =
+        let there : placeOf owner 0 (drop b map) < length (drop b map) = omega (arith, length-drop b map) in
+        let m : blockSize * b + blockSize * placeOf owner 0 (drop b map) ≡ start = omega arith in
+        let n : b + suc (placeOf owner 0 (drop b map)) ≡ k + 1 = omega arith in
+        let front : take (blockSize * b) pool ++ take (blockSize * placeOf owner 0 (drop b map)) (drop (blockSize * b) pool) ≡ take start pool =
+        sym (take-add (blockSize * b) (blockSize * placeOf owner 0 (drop b map)) pool) ∙ ap (λ (i : ℕ). take i pool) m in
+        let here : drop (blockSize * placeOf owner 0 (drop b map)) (drop (blockSize * b) pool) ≡ drop start pool =
+        drop-drop (blockSize * placeOf owner 0 (drop b map)) (blockSize * b) pool ∙ ap (λ (i : ℕ). drop i pool) m in
+        let later : drop (suc (placeOf owner 0 (drop b map))) (drop b map) ≡ drop (k + 1) map =
+        drop-drop (suc (placeOf owner 0 (drop b map))) b map ∙ ap (λ (i : ℕ). drop i map) n in
+        ap (λ (t : List ℕ). take (blockSize * b) pool ++ t) (append-share owner at s (drop b map) (drop (blockSize * b) pool) (placeOf owner 0 (drop b map)) refl there)
+        ∙ rw (here, later)
+        (regroup (take (blockSize * b) pool) (take (blockSize * placeOf owner 0 (drop b map)) (drop (blockSize * b) pool)) (over at s (take blockSize (drop start pool)))
+        (appended owner (at - blockSize) (drop (blockSize - at) s) (drop (k + 1) map) (drop blockSize (drop start pool)))
+        ∙ rw front)
+
+    module _ (inside : at < blockSize) (r : List ℕ) (put : r ≡ over at s (take (start + size - start) (drop start pool))) where
+      after-is : putMid start (start + size - start) pool r ≡ (take start pool ++ block) ++ drop blockSize (drop start pool)
+      unfolding block
+      after-is =
+          let z : start + size - start ≡ size = omega arith in
+          let e : r ≡ over at s (take blockSize (drop start pool)) = put ∙ ap (over at s) (block-short pool start size sized) in
+          rw (e, z, drop-drop size start pool, behind-short pool start size sized) (sym (append-assoc (take start pool) (over at s (take blockSize (drop start pool))) (drop blockSize (drop start pool))))
+
+      front-length : length (take start pool ++ block) ≡ start + size
+      unfolding block
+      front-length =
+          length-append (take start pool) (over at s (take blockSize (drop start pool)))
+          ∙ omega (arith, length-take-le start pool fits, over-length at s (take blockSize (drop start pool)), block-length pool start size sized)
+
+      near : take (blockSize * (k + 1)) (putMid start (start + size - start) pool r) ≡ take start pool ++ block
+      near =
+          compare blockSize (length pool - start)
+          (λ h.
+          let n : length (take start pool ++ block) ≡ blockSize * (k + 1) = omega (arith, front-length) in
+          ap (take (blockSize * (k + 1))) after-is ∙ take-at (take start pool ++ block) (drop blockSize (drop start pool)) (blockSize * (k + 1)) n)
+          (λ h.
+          let none : drop blockSize (drop start pool) ≡ [] = drop-of-length-le (drop start pool) {i = blockSize} (omega (arith, length-drop start pool)) in
+          let n : length (take start pool ++ block) ≤ blockSize * (k + 1) = omega (arith, front-length) in
+          ap (take (blockSize * (k + 1))) after-is ∙ rw (none, append-nil (take start pool ++ block)) (take-all (blockSize * (k + 1)) (take start pool ++ block) n))
+
+      far : drop (blockSize * (k + 1)) (putMid start (start + size - start) pool r) ≡ drop blockSize (drop start pool)
+      far =
+          compare blockSize (length pool - start)
+          (λ h.
+          let n : length (take start pool ++ block) ≡ blockSize * (k + 1) = omega (arith, front-length) in
+          ap (drop (blockSize * (k + 1))) after-is ∙ drop-at (take start pool ++ block) (drop blockSize (drop start pool)) (blockSize * (k + 1)) n)
+          (λ h.
+          let none : drop blockSize (drop start pool) ≡ [] = drop-of-length-le (drop start pool) {i = blockSize} (omega (arith, length-drop start pool)) in
+          let n : length (take start pool ++ block) ≤ blockSize * (k + 1) = omega (arith, front-length) in
+          ap (drop (blockSize * (k + 1))) after-is ∙ rw (none, append-nil (take start pool ++ block)) (drop-of-length-le (take start pool ++ block) {i = blockSize * (k + 1)} n))
+
+      -- a turn: what is left of the payload goes to the blocks behind
+      pub from-turn : appendedFrom owner (k + 1) 0 (drop (blockSize - at) s) map (putMid start (start + size - start) pool r) ≡ appendedFrom owner b at s map pool
+      unfolding appendedFrom
+      from-turn =
+          let z : at - blockSize ≡ 0 = omega arith in
+          ap₂ (λ (x y : List ℕ). x ++ appended owner 0 (drop (blockSize - at) s) (drop (k + 1) map) y) near far ∙ sym (rw z at from-share)
+
+-- what is left of a payload after one block's share
+pub payload-left : (s : List ℕ) (done room n : ℕ) → n ≡ min room (length s - done) → drop (done + n) s ≡ drop room (drop done s)
+payload-left s done room n e =
+    compare room (length s - done)
+    (λ h. let z : n ≡ room = omega arith in rw z (sym (drop-drop room done s)))
+    (λ h.
+    let a : length s ≤ done + n = omega arith in
+    let c : length s ≤ done + room = omega arith in
+    drop-of-length-le s {i = done + n} a ∙ sym (drop-drop room done s ∙ drop-of-length-le s {i = done + room} c))
+
+-- the same turn, with the parts that code lends
+pub fill-turn : (owner b at : ℕ) (s map pool : List ℕ) (done n k : ℕ) → k ≡ b + placeOf owner 0 (drop b map) → k < length map → (start size : ℕ) → start ≡ blockSize * k → start ≤ length pool
+    → size ≡ min blockSize (length pool - start) → at < blockSize → n ≡ min (blockSize - at) (length s - done)
+    → (r : List ℕ) → r ≡ over at (take (length s - done) (drop done s)) (take (start + size - start) (drop start pool))
+    → appendedFrom owner (k + 1) 0 (drop (done + n) s) map (putMid start (start + size - start) pool r) ≡ appendedFrom owner b at (drop done s) map pool
+fill-turn owner b at s map pool done n k is below start size begins fits sized inside least r put =
+    let p : List ℕ = putMid start (start + size - start) pool r in
+    let e : r ≡ over at (drop done s) (take (start + size - start) (drop start pool)) = put ∙ ap (λ (t : List ℕ). over at t (take (start + size - start) (drop start pool))) (part-behind s done) in
+    ap (λ (t : List ℕ). appendedFrom owner (k + 1) 0 t map p) (payload-left s done (blockSize - at) n least)
+    ∙ from-turn owner b at (drop done s) map pool k is below start size begins fits sized inside r e
+
+-- where the next block lies
+pub next-block : (owner : ℕ) (map : List ℕ) (b r : ℕ) → r ≡ placeOf owner 0 (take (length map - b) (drop b map)) → b + r ≡ b + placeOf owner 0 (drop b map)
+next-block owner map b r e = ap (λ (i : ℕ). b + i) (rest-place owner 0 map b r e)
+
+-- the payload is used up
+pub from-done : (owner b at : ℕ) (s map pool : List ℕ) (done : ℕ) → length s ≤ done → pool ≡ appendedFrom owner b at (drop done s) map pool
+unfolding appendedFrom
+from-done owner b at s map pool done h =
+    sym (rw (drop-of-length-le s {i = done} h, append-nothing owner at (drop b map) (drop (blockSize * b) pool)) (take-append-drop (blockSize * b) pool))
+
+-- from the first block on, and from the block at the place where the payload goes
+pub from-found : (owner at : ℕ) (s map pool : List ℕ) (k : ℕ) → k ≡ placeOf owner (at / blockSize) map → appendedFrom owner k (at % blockSize) s map pool ≡ appended owner at s map pool
+unfolding appendedFrom
+from-found owner at s map pool k is = sym (append-skip owner (at / blockSize) (at % blockSize) at k s map pool (omega arith) is)
+
+-- ---- delivering, from the owner's first block on
+
+-- the bytes of the blocks before belong to others
+bytes-skip : (owner k : ℕ) (map pool : List ℕ) → k ≡ placeOf owner 0 map → blockBytes owner map pool ≡ blockBytes owner (drop k map) (drop (blockSize * k) pool)
+unfolding blockBytes placeOf
+bytes-skip owner k [] pool g = rw (drop-nil k)
+bytes-skip owner k (o ∷ map) pool g =
+    place-cases owner 0 o
+    (λ e z. let q : k ≡ 0 = g ∙ place-here owner 0 o map e z in rw q)
+    (λ e z. absurd (z refl))
+    (λ e.
+    let q : k ≡ suc (placeOf owner 0 map) = g ∙ place-not owner 0 o map e in
+    let m : blockSize * suc (placeOf owner 0 map) ≡ blockSize + blockSize * placeOf owner 0 map = omega arith in
+    bytes-not owner o map pool e ∙ bytes-skip owner (placeOf owner 0 map) map (drop blockSize pool) refl
+    ∙ rw (q, m, drop-drop (blockSize * placeOf owner 0 map) blockSize pool))
+
+-- the first `due` of a block and what is behind it
+take-share : (due n : ℕ) (a b : List ℕ) → n ≡ min (length a) due → take due (a ++ b) ≡ take n a ++ take (due - n) b
+take-share due n a b e =
+    compare due (length a)
+    (λ h.
+    let q : n ≡ due = omega arith in
+    let z : due - due ≡ 0 = omega arith in
+    take-append-le due a b h ∙ rw (q, z) (sym (append-nil (take due a))))
+    (λ h.
+    let q : n ≡ length a = omega arith in
+    let w : due ≡ length a + (due - length a) = omega arith in
+    let all : take (length a) a ≡ a = take-all (length a) a (omega arith) in
+    rw (q, all) (ap (λ (i : ℕ). take i (a ++ b)) w ∙ take-append-add a b (due - length a)))
+
+module _ (owner due : ℕ) (map pool out : List ℕ) where
+  pub deliver-nothing : due ≡ 0 → out ≡ delivered owner due map pool out
+  unfolding delivered
+  deliver-nothing e = rw e (sym (over-nothing 0 out))
+
+  module _ (k : ℕ) (is : k ≡ placeOf owner 0 map) where
+    -- the owner has no block
+    pub deliver-no-block : length map ≤ k → out ≡ delivered owner due map pool out
+    unfolding delivered blockBytes
+    deliver-no-block h =
+        let none : blockBytes owner map pool ≡ [] = bytes-skip owner k map pool is ∙ rw (drop-of-length-le map {i = k} h) in
+        rw (none, take-nil due) (sym (over-nothing 0 out))
+
+    -- its first block lies past the pool's end
+    pub deliver-no-pool : length pool ≤ blockSize * k → out ≡ delivered owner due map pool out
+    unfolding delivered
+    deliver-no-pool h =
+        let none : blockBytes owner map pool ≡ [] = bytes-skip owner k map pool is ∙ rw (drop-of-length-le pool {i = blockSize * k} h) (bytes-none owner (drop k map)) in
+        rw (none, take-nil due) (sym (over-nothing 0 out))
+
+    module _ (below : k < length map) (start size n : ℕ) (begins : start ≡ blockSize * k) (sized : size ≡ min blockSize (length pool - start)) (least : n ≡ min size due) (o : List ℕ)
+        (put : o ≡ over 0 (take (start + n - start) (drop start pool)) out) where
+      rest : List ℕ
+      rest = blockBytes owner (drop (suc k) map) (drop blockSize (drop start pool))
+
+      -- what is due: this block's share, and then what is due of the rest
+      share : take due (blockBytes owner map pool) ≡ take n (drop start pool) ++ take (due - n) rest
+      unfolding rest
+      share =
+          let first : blockBytes owner map pool ≡ take blockSize (drop start pool) ++ blockBytes owner (drop (suc k) map) (drop blockSize (drop start pool)) =
+          bytes-skip owner k map pool is ∙ rw (first-block owner map k is below, begins) (bytes-mine owner owner (drop (suc k) map) (drop (blockSize * k) pool) refl) in
+          let m : n ≡ min (length (take blockSize (drop start pool))) due = omega (arith, block-length pool start size sized) in
+          ap (take due) first ∙ take-share due n (take blockSize (drop start pool)) _ m ∙ rw (take-take n blockSize (drop start pool) (omega arith))
+
+      share-length : length (take n (drop start pool)) ≡ n
+      share-length = length-take-le n (drop start pool) (omega (arith, length-drop start pool))
+
+      put-share : o ≡ over 0 (take n (drop start pool)) out
+      put-share = let z : start + n - start ≡ n = omega arith in put ∙ ap (λ (i : ℕ). over 0 (take i (drop start pool)) out) z
+
+      whole : delivered owner due map pool out ≡ take n o ++ over 0 (take (due - n) rest) (drop n out)
+      unfolding delivered
+      whole =
+          ap (λ (s : List ℕ). over 0 s out) share ∙ over-pieces (take n (drop start pool)) (take (due - n) rest) out
+          ∙ rw (share-length, ← put-share)
+
+      -- out ends here
+      pub deliver-full : length o ≤ n → o ≡ delivered owner due map pool out
+      unfolding over
+      deliver-full h =
+          let none : length out ≤ n = omega (arith, ap length put-share, over-length 0 (take n (drop start pool)) out) in
+          sym (whole ∙ rw (drop-of-length-le out {i = n} none, take-all n o h) (append-nil o))
+
+      -- the rest went to what is behind in out
+      pub deliver-more : (q : List ℕ)
+          → q ≡ delivered owner (due - n) (take (length map - (k + 1)) (drop (k + 1) map)) (take (length pool - (start + size)) (drop (start + size) pool)) (take (length o - n) (drop n o))
+          → putMid n (length o - n) o q ≡ delivered owner due map pool out
+      unfolding delivered rest
+      deliver-more q e =
+          let w : 0 + length (take n (drop start pool)) ≡ n = omega (arith, share-length) in
+          let far : drop n o ≡ drop n out = ap (drop n) put-share ∙ rw w at (over-behind 0 (take n (drop start pool)) out) in
+          let none : drop (length o - n) (drop n o) ≡ [] = drop-of-length-le (drop n o) {i = length o - n} (omega (arith, length-drop n o)) in
+          let more : q ≡ over 0 (take (due - n) (blockBytes owner (drop (suc k) map) (drop blockSize (drop start pool)))) (drop n out) =
+          e ∙ rw (part-behind map (k + 1), part-behind pool (start + size), behind-short pool start size sized, part-behind o n, far, add-one k) in
+          rw (none, append-nil q, more) (sym whole)
+
+-- ---- delivering, some blocks and then the rest
+
+-- the bytes from the owner's block at the place n on
+bytes-place : (owner n k : ℕ) (map pool : List ℕ) → k ≡ placeOf owner n map
+    → blockBytes owner (drop k map) (drop (blockSize * k) pool) ≡ drop (blockSize * n) (blockBytes owner map pool)
+unfolding blockBytes placeOf
+bytes-place owner n k [] pool g = rw (drop-nil k) (sym (drop-nil (blockSize * n)))
+bytes-place owner n k (o ∷ map) pool g =
+    place-cases owner n o
+    (λ e z.
+    let q : k ≡ 0 = g ∙ place-here owner n o map e z in
+    rw (q, z))
+    (λ e z.
+    let q : k ≡ suc (placeOf owner (n - 1) map) = g ∙ place-later owner n o map e z in
+    further o map pool k (placeOf owner (n - 1) map) q ∙ bytes-place owner (n - 1) (placeOf owner (n - 1) map) map (drop blockSize pool) refl
+    ∙ behind-first n pool (blockBytes owner map (drop blockSize pool)) z (λ s. short s)
+    ∙ ap (drop (blockSize * n)) (sym (bytes-mine owner o map pool e)))
+    (λ e.
+    let q : k ≡ suc (placeOf owner n map) = g ∙ place-not owner n o map e in
+    further o map pool k (placeOf owner n map) q ∙ bytes-place owner n (placeOf owner n map) map (drop blockSize pool) refl
+    ∙ ap (drop (blockSize * n)) (sym (bytes-not owner o map pool e)))
+  where
+    further : (o : ℕ) (map pool : List ℕ) (k j : ℕ) → k ≡ suc j → blockBytes owner (drop k (o ∷ map)) (drop (blockSize * k) pool) ≡ blockBytes owner (drop j map) (drop (blockSize * j) (drop blockSize pool))
+    further o map pool k j q =
+        let m : blockSize * k ≡ blockSize + blockSize * j = omega arith in
+        rw (m, q, drop-drop (blockSize * j) blockSize pool)
+
+    short : length pool < blockSize → blockBytes owner map (drop blockSize pool) ≡ []
+    short s =
+        let h : length pool ≤ blockSize = omega arith in
+        rw (drop-of-length-le pool {i = blockSize} h) (bytes-none owner map)
+
+    behind-first : (n : ℕ) (pool rest : List ℕ) → n ≢ 0 → (length pool < blockSize → rest ≡ []) → drop (blockSize * (n - 1)) rest ≡ drop (blockSize * n) (take blockSize pool ++ rest)
+    behind-first n pool rest z none =
+        compare blockSize (length pool)
+        (λ h.
+        let full : length (take blockSize pool) ≡ blockSize = length-take-le blockSize pool h in
+        let m : blockSize * n ≡ length (take blockSize pool) + blockSize * (n - 1) = omega arith in
+        rw m (sym (drop-append-add (take blockSize pool) rest (blockSize * (n - 1)))))
+        (λ h.
+        let small : length (take blockSize pool) ≤ blockSize * n = omega (arith, length-take blockSize pool) in
+        rw (none h, append-nil (take blockSize pool), drop-nil (blockSize * (n - 1))) (sym (drop-of-length-le (take blockSize pool) {i = blockSize * n} small)))
+
+module _ (owner due n : ℕ) (map pool out : List ℕ) (o : List ℕ) (put : o ≡ delivered owner (blockSize * n) map pool out) (more : blockSize * n < due) where
+  -- what is delivered, in two pieces
+  pieces : delivered owner due map pool out ≡ take (blockSize * n) o ++ over 0 (take (due - blockSize * n) (drop (blockSize * n) (blockBytes owner map pool))) (drop (blockSize * n) o)
+  unfolding delivered
+  pieces =
+      let all : List ℕ = blockBytes owner map pool in
+      let w : due ≡ blockSize * n + (due - blockSize * n) = omega arith in
+      let cut : take due all ≡ take (blockSize * n) all ++ take (due - blockSize * n) (drop (blockSize * n) all) = ap (λ (i : ℕ). take i all) w ∙ take-add (blockSize * n) (due - blockSize * n) all in
+      compare (blockSize * n) (length (blockBytes owner map pool))
+      (λ h.
+      let full : length (take (blockSize * n) all) ≡ blockSize * n = length-take-le (blockSize * n) all h in
+      let z : 0 + length (take (blockSize * n) all) ≡ blockSize * n = omega arith in
+      let far : drop (blockSize * n) o ≡ drop (blockSize * n) out = ap (drop (blockSize * n)) put ∙ rw z at (over-behind 0 (take (blockSize * n) all) out) in
+      ap (λ (s : List ℕ). over 0 s out) cut ∙ over-pieces (take (blockSize * n) all) (take (due - blockSize * n) (drop (blockSize * n) all)) out
+      ∙ rw (full, ← put, far))
+      (λ h.
+      let g : length all ≤ blockSize * n = omega arith in
+      let none : drop (blockSize * n) all ≡ [] = drop-of-length-le all {i = blockSize * n} g in
+      ap (λ (s : List ℕ). over 0 s out) (cut ∙ rw (none, take-nil (due - blockSize * n)) (append-nil (take (blockSize * n) all)))
+      ∙ sym put ∙ sym (take-append-drop (blockSize * n) o)
+      ∙ ap (λ (t : List ℕ). take (blockSize * n) o ++ t) (sym (rw (none, take-nil (due - blockSize * n)) (over-nothing 0 (drop (blockSize * n) o)))))
+
+  -- out ends with the first piece
+  pub pieces-full : length o ≤ blockSize * n → o ≡ delivered owner due map pool out
+  unfolding over
+  pieces-full h = sym (pieces ∙ rw (drop-of-length-le o {i = blockSize * n} h, take-all (blockSize * n) o h) (append-nil o))
+
+  module _ (k : ℕ) (is : k ≡ placeOf owner n map) where
+    -- the pool ends before the second piece
+    pub pieces-end : length pool ≤ blockSize * k → o ≡ delivered owner due map pool out
+    pieces-end h =
+        let none : drop (blockSize * n) (blockBytes owner map pool) ≡ [] =
+        sym (bytes-place owner n k map pool is) ∙ rw (drop-of-length-le pool {i = blockSize * k} h) (bytes-none owner (drop k map)) in
+        sym (pieces ∙ rw (none, take-nil (due - blockSize * n), over-nothing 0 (drop (blockSize * n) o)) (take-append-drop (blockSize * n) o))
+
+    -- the second piece went to what is behind in out
+    pub pieces-more : (q : List ℕ)
+        → q ≡ delivered owner (due - blockSize * n) (take (length map - k) (drop k map)) (take (length pool - blockSize * k) (drop (blockSize * k) pool)) (take (length o - blockSize * n) (drop (blockSize * n) o))
+        → putMid (blockSize * n) (length o - blockSize * n) o q ≡ delivered owner due map pool out
+    unfolding delivered
+    pieces-more q e =
+        let none : drop (length o - blockSize * n) (drop (blockSize * n) o) ≡ [] = drop-of-length-le (drop (blockSize * n) o) {i = length o - blockSize * n} (omega (arith, length-drop (blockSize * n) o)) in
+        let far : q ≡ over 0 (take (due - blockSize * n) (drop (blockSize * n) (blockBytes owner map pool))) (drop (blockSize * n) o) =
+        e ∙ rw (part-behind map k, part-behind pool (blockSize * k), part-behind o (blockSize * n), bytes-place owner n k map pool is) in
+        rw (none, append-nil q, far) (sym pieces)

@@ -1,0 +1,128 @@
+-- Turns and ends of the loops over the map: what is counted, claimed, released or found, and what is left to go through.
+-- By the laws of one entry. Assumes nothing.
+use Prim.Native.Nat.{ℕ, suc, _+_, _-_, _<_, _≤_}
+use mathlib.Core.Path.{_≡_, ap, sym, _∙_}
+use mathlib.Core.Logic.{_≢_}
+use mathlib.Core.Bool.{_&&_}
+use mathlib.Core.List.{List, [], _∷_, _++_, append-nil}
+use native.Mathlib.Numerals.{add-one}
+use native.Mathlib.Omega.{arith}
+use lib.Dec.{eqb, leb}
+use lib.ListN.{length, take, drop, getD, set, drop-of-length-le, take-append-drop, length-take, length-drop}
+use lib.Seq.{drop-cons, take-suc, take-suc-set, drop-set-lt, append-snoc, take-all, drop-drop}
+use Rattle.numbers.specs.Bytes.{pick}
+use Rattle.blocks.specs.Map.{free, heldBy, claimed, released, placeOf}
+use Rattle.blocks.proofs.Over.{split}
+use Rattle.blocks.proofs.Counts.{held-most, claim-none, claim-taken, claim-held, place-here, place-later, place-not, place-most, place-skip}
+
+-- a pass over a list at i: the entry is kept, or v is stored there
+pub kept-at : (g : List ℕ → List ℕ) (p : List ℕ) (i : ℕ) → i < length p → take (i + 1) p ++ g (drop (i + 1) p) ≡ take i p ++ (getD p i 0 ∷ g (drop (suc i) p))
+kept-at g p i h = rw (add-one, take-suc p i 0, append-snoc)
+
+pub stored-at : (g : List ℕ → List ℕ) (p : List ℕ) (i v : ℕ) → i < length p
+    → take (i + 1) (set p i v) ++ g (drop (i + 1) (set p i v)) ≡ take i p ++ (v ∷ g (drop (suc i) p))
+stored-at g p i v h =
+    let e : i < suc i = omega arith in
+    rw (add-one, take-suc-set, drop-set-lt (suc i) p i v e, append-snoc)
+
+-- claiming: an entry that is taken, one that is not free, nothing left to claim, the end
+module _ (owner n : ℕ) (p : List ℕ) (i : ℕ) where
+  pub claim-turn : i < length p → getD p i 0 ≡ free → 0 < n
+      → take (i + 1) (set p i owner) ++ claimed owner (n - 1) (drop (i + 1) (set p i owner)) ≡ take i p ++ claimed owner n (drop i p)
+  claim-turn h e g =
+      stored-at (claimed owner (n - 1)) p i owner h
+      ∙ ap (λ (t : List ℕ). take i p ++ t) (sym (claim-taken owner n (getD p i 0) (drop (suc i) p) e g) ∙ ap (claimed owner n) (sym (drop-cons p i 0 h)))
+
+  pub claim-pass : i < length p → getD p i 0 ≢ free → take (i + 1) p ++ claimed owner n (drop (i + 1) p) ≡ take i p ++ claimed owner n (drop i p)
+  claim-pass h e =
+      kept-at (claimed owner n) p i h
+      ∙ ap (λ (t : List ℕ). take i p ++ t) (sym (claim-held owner n (getD p i 0) (drop (suc i) p) e) ∙ ap (claimed owner n) (sym (drop-cons p i 0 h)))
+
+  pub claim-done : n ≡ 0 → take i p ++ claimed owner n (drop i p) ≡ p
+  claim-done e = rw (e, claim-none owner (drop i p)) (take-append-drop i p)
+
+  pub claim-end : length p ≤ i → take i p ++ claimed owner n (drop i p) ≡ p
+  unfolding claimed
+  claim-end h = rw (drop-of-length-le, take-all, append-nil)
+
+-- releasing: an entry, and the end
+module _ (low high : ℕ) (p : List ℕ) (i : ℕ) where
+  pub release-turn : (v : ℕ) → i < length p → v ≡ pick (leb low (getD p i 0) && leb (getD p i 0) high) free (getD p i 0)
+      → take (i + 1) (set p i v) ++ released low high (drop (i + 1) (set p i v)) ≡ take i p ++ released low high (drop i p)
+  unfolding released
+  release-turn v h e = stored-at (released low high) p i v h ∙ rw (drop-cons p i 0 h, e)
+
+  pub release-end : length p ≤ i → take i p ++ released low high (drop i p) ≡ p
+  unfolding released
+  release-end h = rw (drop-of-length-le, take-all, append-nil)
+
+-- counting: an entry, and the end
+module _ (owner : ℕ) (map : List ℕ) (i : ℕ) where
+  pub count-turn : (v : ℕ) → i < length map → v ≡ pick (eqb (getD map i 0) owner) 1 0 → v + heldBy owner (drop (i + 1) map) ≡ heldBy owner (drop i map)
+  unfolding heldBy
+  count-turn v h e = rw (add-one, drop-cons map i 0, e)
+
+  pub count-end : length map ≤ i → heldBy owner (drop i map) ≡ 0
+  unfolding heldBy
+  count-end h = rw drop-of-length-le
+
+  -- an entry counts for one at most
+  pub count-one : (v : ℕ) → v ≡ pick (eqb (getD map i 0) owner) 1 0 → v ≤ 1
+  count-one v e = split (eqb (getD map i 0) owner) (λ t. omega (arith, rw t at e)) (λ t. omega (arith, rw t at e))
+
+pub held-pieces : (owner : ℕ) (a b : List ℕ) → heldBy owner (a ++ b) ≡ heldBy owner a + heldBy owner b
+unfolding heldBy
+held-pieces owner [] b = omega arith
+held-pieces owner (o ∷ a) b = omega (arith, held-pieces owner a b)
+
+-- the part of a list from i on, as code lends it
+pub part-behind : (map : List ℕ) (i : ℕ) → take (length map - i) (drop i map) ≡ drop i map
+part-behind map i = take-all (length map - i) (drop i map) (omega (arith, length-drop i map))
+
+module _ (owner : ℕ) (map : List ℕ) (i n r : ℕ) (e : r ≡ heldBy owner (take (i + n - i) (drop i map))) where
+  group-count : r ≡ heldBy owner (take n (drop i map))
+  group-count = let z : i + n - i ≡ n = omega arith in e ∙ ap (λ (k : ℕ). heldBy owner (take k (drop i map))) z
+
+  pub group-turn : r + heldBy owner (drop (i + n) map) ≡ heldBy owner (drop i map)
+  group-turn =
+      ap (λ (k : ℕ). k + heldBy owner (drop (i + n) map)) group-count
+      ∙ ap (λ (t : List ℕ). heldBy owner (take n (drop i map)) + heldBy owner t) (sym (drop-drop n i map))
+      ∙ sym (held-pieces owner (take n (drop i map)) (drop n (drop i map))) ∙ ap (heldBy owner) (take-append-drop n (drop i map))
+
+  pub group-most : r ≤ n
+  group-most = omega (arith, group-count, held-most owner (take n (drop i map)), length-take n (drop i map))
+
+  -- the block that is looked for is not among them
+  pub group-pass : (left : ℕ) → i + n ≤ length map → r ≤ left → placeOf owner left (drop i map) ≡ n + placeOf owner (left - r) (drop (i + n) map)
+  group-pass left h g =
+      let inside : n ≤ length (drop i map) = omega (arith, length-drop i map) in
+      let few : heldBy owner (take n (drop i map)) ≤ left = omega (arith, group-count) in
+      rw (group-count, ← drop-drop n i map) (place-skip owner left n (drop i map) inside few)
+
+-- those that are left
+pub rest-count : (owner : ℕ) (map : List ℕ) (i r : ℕ) → r ≡ heldBy owner (take (length map - i) (drop i map)) → r ≡ heldBy owner (drop i map)
+rest-count owner map i r e = e ∙ ap (heldBy owner) (part-behind map i)
+
+pub rest-most : (owner : ℕ) (map : List ℕ) (i r : ℕ) → i ≤ length map → r ≡ heldBy owner (take (length map - i) (drop i map)) → r + i ≤ length map
+rest-most owner map i r h e = omega (arith, rest-count owner map i r e, held-most owner (drop i map), length-drop i map)
+
+pub rest-place : (owner n : ℕ) (map : List ℕ) (i r : ℕ) → r ≡ placeOf owner n (take (length map - i) (drop i map)) → r ≡ placeOf owner n (drop i map)
+rest-place owner n map i r e = e ∙ ap (placeOf owner n) (part-behind map i)
+
+pub place-inside : (owner n : ℕ) (map : List ℕ) (i r : ℕ) → i ≤ length map → r ≡ placeOf owner n (take (length map - i) (drop i map)) → i + r ≤ length map
+place-inside owner n map i r h e = omega (arith, rest-place owner n map i r e, place-most owner n (drop i map), length-drop i map)
+
+-- finding: the block itself, another of the owner's before it, one of another, the end
+module _ (owner n : ℕ) (map : List ℕ) (i : ℕ) where
+  pub find-here : i < length map → getD map i 0 ≡ owner → n ≡ 0 → placeOf owner n (drop i map) ≡ 0
+  find-here h e z = rw (drop-cons map i 0 h) (place-here owner n (getD map i 0) (drop (suc i) map) e z)
+
+  pub find-later : i < length map → getD map i 0 ≡ owner → n ≢ 0 → placeOf owner n (drop i map) ≡ suc (placeOf owner (n - 1) (drop (i + 1) map))
+  find-later h e z = rw (drop-cons map i 0 h, add-one i) (place-later owner n (getD map i 0) (drop (suc i) map) e z)
+
+  pub find-not : i < length map → getD map i 0 ≢ owner → placeOf owner n (drop i map) ≡ suc (placeOf owner n (drop (i + 1) map))
+  find-not h e = rw (drop-cons map i 0 h, add-one i) (place-not owner n (getD map i 0) (drop (suc i) map) e)
+
+  pub find-end : length map ≤ i → placeOf owner n (drop i map) ≡ 0
+  unfolding placeOf
+  find-end h = rw drop-of-length-le

@@ -1,0 +1,69 @@
+-- `blocks::claim` meets its contract. The loop's invariant: the entries passed, and the claim of what is left to take on the entries left, are the whole claim.
+-- Assumes nothing.
+use Prim.Native.Nat.{_≤_, _<_, _-_}
+use mathlib.Core.Path.{_≡_, refl, sym, _∙_}
+use mathlib.Core.List.{_++_}
+use mathlib.Core.Logic.{⊎-elim}
+use native.Mathlib.Omega.{arith}
+use lib.ListN.{length, take, drop, length-set}
+use Rattle.blocks.specs.Map.{claimed}
+use Rattle.blocks.proofs.Turns.{claim-turn, claim-pass, claim-done, claim-end}
+use borrow.Author.Needs.{needs}
+use Rattle.blocks.proofs.claim.Statement.{statement}
+use Rattle.blocks.proofs.claim.Tie as tie
+
+abbrev Inv-loop : tie.InvT-loop
+Inv-loop count number after₀ wanted₀ i₀ after wanted i = (i ≤ 256) × (length after ≡ 256) × (take i after ++ claimed number wanted (drop i after) ≡ claimed number count after₀)
+
+abbrev μ-loop : tie.MeasureT-loop
+μ-loop count number after₀ wanted₀ i₀ after wanted i = 256 - i
+
+loop-holds : tie.Need-loop-holds Inv-loop μ-loop
+loop-holds c = (omega arith, (c .good .0 .1 .0 .1), refl)
+
+returns : tie.Need-returns Inv-loop μ-loop
+returns c = let l = (c .before .before .loop) in sym (claim-done _ (l .wanted) (l .after) (l .i) (c .if1 .taken)) ∙ l .inv .2
+
+array-read-if2 : tie.Need-array-read-if2 Inv-loop μ-loop
+array-read-if2 c = search needs
+
+array-write-after : tie.Need-array-write-after Inv-loop μ-loop
+array-write-after c = search needs
+
+sub-wanted : tie.Need-sub-wanted Inv-loop μ-loop
+sub-wanted c = search needs
+
+add-i : tie.Need-add-i Inv-loop μ-loop
+add-i c = search needs
+
+loop-less : tie.Need-loop-less Inv-loop μ-loop
+loop-less c = search needs
+
+loop-again : tie.Need-loop-again Inv-loop μ-loop
+loop-again c =
+    let l = (c .before .before .before .loop) in
+    let a = (c .before .before .before .before .args) in
+    let h : l .i < length (l .after) = omega arith in
+    ⊎-elim
+    (λ w. (omega arith, rw (w .1) (simp length-set (omega arith)), cc (claim-turn (a .owner .0) (l .wanted) (l .after) (l .i) h (w .0 .taken) (omega arith))))
+    (λ w. (omega arith, rw (w .1) (omega arith), cc (claim-pass (a .owner .0) (l .wanted) (l .after) (l .i) h (w .0 .left))))
+    ((c .if2 .came))
+
+returns-2 : tie.Need-returns-2 Inv-loop μ-loop
+returns-2 c = let l = (c .before .loop) in sym (claim-end _ (l .wanted) (l .after) (l .i) (omega arith)) ∙ l .inv .2
+
+pub claim-spec : {M : Type 1} → statement M
+claim-spec =
+    tie.close
+    (tie.spec
+    Inv-loop
+    μ-loop
+    loop-holds
+    returns
+    array-read-if2
+    array-write-after
+    sub-wanted
+    add-i
+    loop-less
+    loop-again
+    returns-2)

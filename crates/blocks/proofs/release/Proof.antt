@@ -1,0 +1,60 @@
+-- `blocks::release` meets its contract. The loop's invariant: the entries passed, and the release of the entries left, are the whole release.
+-- Assumes nothing.
+use Prim.Native.Nat.{_≤_, _<_, _-_}
+use mathlib.Core.Path.{_≡_, refl, sym, _∙_}
+use mathlib.Core.List.{_++_}
+use native.Mathlib.Omega.{arith}
+use lib.ListN.{length, take, drop, length-set}
+use Rattle.blocks.specs.Map.{released}
+use Rattle.blocks.proofs.Turns.{release-turn, release-end}
+use borrow.Author.Needs.{needs}
+use Rattle.blocks.proofs.release.Statement.{statement}
+use Rattle.blocks.proofs.release.Tie as tie
+
+abbrev Inv-loop : tie.InvT-loop
+Inv-loop first last after₀ i₀ after i = (i ≤ 256) × (length after ≡ 256) × (take i after ++ released first last (drop i after) ≡ released first last after₀)
+
+abbrev μ-loop : tie.MeasureT-loop
+μ-loop first last after₀ i₀ after i = 256 - i
+
+loop-holds : tie.Need-loop-holds Inv-loop μ-loop
+loop-holds c = (omega arith, (c .good .0 .1 .0 .1), refl)
+
+array-read-entry-after : tie.Need-array-read-entry-after Inv-loop μ-loop
+array-read-entry-after c = search needs
+
+entry-after-requires : tie.Need-entry-after-requires Inv-loop μ-loop
+entry-after-requires c κs = search needs
+
+array-write-after : tie.Need-array-write-after Inv-loop μ-loop
+array-write-after c = search needs
+
+add-i : tie.Need-add-i Inv-loop μ-loop
+add-i c = search needs
+
+loop-less : tie.Need-loop-less Inv-loop μ-loop
+loop-less c = search needs
+
+loop-again : tie.Need-loop-again Inv-loop μ-loop
+loop-again c =
+    let l = (c .before .before .loop) in
+    let h : l .i < length (l .after) = omega arith in
+    (omega arith, simp length-set (omega arith), release-turn _ _ (l .after) (l .i) (c .entry-after .result) h (c .entry-after .ensures) ∙ l .inv .2)
+
+returns : tie.Need-returns Inv-loop μ-loop
+returns c = let l = (c .before .loop) in sym (release-end _ _ (l .after) (l .i) (omega arith)) ∙ l .inv .2
+
+pub release-spec : {M : Type 1} → statement M
+release-spec =
+    tie.close
+    (tie.spec
+    Inv-loop
+    μ-loop
+    loop-holds
+    array-read-entry-after
+    entry-after-requires
+    array-write-after
+    add-i
+    loop-less
+    loop-again
+    returns)

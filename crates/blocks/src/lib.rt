@@ -1,0 +1,320 @@
+// The shared reassembly room: a lent pool of bytes in blocks of 256, and a map that says of each block whose it is.
+// It knows no session, no message and no frame: owners are numbers, and bytes are bytes.
+// Every public function answers every map, pool and number: it stops where blocks, pool or buffer run out, as its definition says.
+ghost use mathlib.Core.Path.{_≡_};
+ghost use Prim.Native.Nat.{_+_, _-_, _*_, _≤_, _<_, min};
+ghost use lib.Dec.{eqb, ltb, leb};
+ghost use mathlib.Core.Bool.{_&&_};
+ghost use lib.ListN.{length};
+ghost use Rattle.numbers.specs.Bytes.{pick};
+ghost use Rattle.blocks.specs.Map.{blockSize, free, neededFor, freeMap, heldBy, freeIn, claimed, released, placeOf, nthBlock};
+ghost use Rattle.blocks.specs.Pool.{over, appended, appendedFrom, delivered};
+
+// A block's place in the pool: block b has the BLOCK_SIZE bytes from BLOCK_SIZE * b on.
+pub struct BlockNumber(pub usize);
+
+// Whose a block is; FREE is nobody's.
+pub struct Owner(pub u8);
+
+// One of an owner's blocks, or that it has not so many.
+pub enum Found {
+    Block(BlockNumber),
+    Missing,
+}
+
+// Bytes of a block.
+pub const BLOCK_SIZE: usize = 256;
+
+// Blocks of the whole pool.
+pub const BLOCK_COUNT: usize = 256;
+
+// The owner number of a free block.
+pub const FREE: u8 = 0;
+
+// Entries of the map that are counted at once: few enough for a count of one byte, so that sixteen of them are compared in one step.
+const GROUP: usize = 64;
+
+// Blocks that are delivered by calls one inside another: few enough for the processor to remember where each returns to.
+const AT_ONCE: usize = 16;
+
+// The map in which every block is free.
+pub fn free_map() -> [u8; BLOCK_COUNT]
+    ensures { λ r. ⌜ r ≡ freeMap ⌝ }
+{
+    [FREE; BLOCK_COUNT]
+}
+
+// How many blocks so many bytes need: (total + 255) / 256, without a sum that could wrap.
+pub fn blocks_needed(total: usize) -> usize
+    ensures { λ r. ⌜ r ≡ neededFor total ⌝ }
+{
+    let whole = total / BLOCK_SIZE;
+    if total % BLOCK_SIZE == 0 {
+        whole
+    } else {
+        whole + 1
+    }
+}
+
+fn least(a: usize, b: usize) -> usize
+    ensures { λ r. ⌜ r ≡ min a b ⌝ }
+{
+    if a < b { a } else { b }
+}
+
+fn wide(b: u8) -> usize
+    ensures { λ r. ⌜ r ≡ b ⌝ }
+{
+    b as usize
+}
+
+// One where an entry is the owner's, else none: a number and no branch, so that counting takes many entries a step.
+fn one_if_same(entry: u8, owner: u8) -> u8
+    ensures { λ r. ⌜ r ≡ pick (eqb entry owner) 1 0 ⌝ }
+{
+    if entry == owner { 1 } else { 0 }
+}
+
+// How many entries are the owner's. The bound is what makes the count fit a byte; both callers cut the map into groups.
+fn count_group(entries: &[u8], owner: u8) -> u8
+    requires { ⌜ length (now entries) ≤ 64 ⌝ }
+    ensures { λ r. ⌜ r ≡ heldBy owner (now (entries .entry)) ⌝ }
+{
+    let mut count: u8 = 0;
+    let mut i: usize = 0;
+    while i < entries.len() {
+        count += one_if_same(entries[i], owner);
+        i += 1;
+    }
+    count
+}
+
+// How many blocks an owner has.
+pub fn held(map: &[u8], owner: Owner) -> usize
+    ensures { λ r. ⌜ r ≡ heldBy (owner .0) (now (map .entry)) ⌝ }
+{
+    let number = owner.0;
+    let mut count: usize = 0;
+    let mut from: usize = 0;
+    while GROUP <= map.len() - from {
+        let end = from + GROUP;
+        count += wide(count_group(&map[from..end], number));
+        from = end;
+    }
+    count + wide(count_group(&map[from..], number))
+}
+
+// How many blocks are free.
+pub fn free_count(map: &[u8]) -> usize
+    ensures { λ r. ⌜ r ≡ freeIn (now (map .entry)) ⌝ }
+{
+    held(map, Owner(FREE))
+}
+
+// The map after the lowest `count` free blocks, or all of them if there are fewer, went to an owner: one pass, that ends with the last block taken.
+pub fn claim(map: [u8; BLOCK_COUNT], count: usize, owner: Owner) -> [u8; BLOCK_COUNT]
+    ensures { λ r. ⌜ r ≡ claimed (owner .0) count map ⌝ }
+{
+    let number = owner.0;
+    let mut after = map;
+    let mut wanted = count;
+    let mut i: usize = 0;
+    while i < BLOCK_COUNT {
+        if wanted == 0 {
+            return after;
+        }
+        if after[i] == FREE {
+            after[i] = number;
+            wanted -= 1;
+        }
+        i += 1;
+    }
+    after
+}
+
+// An entry after the owners from low to high gave up their blocks.
+fn entry_after(entry: u8, low: u8, high: u8) -> u8
+    ensures { λ r. ⌜ r ≡ pick (leb low entry && leb entry high) free entry ⌝ }
+{
+    if (low <= entry) & (entry <= high) {
+        FREE
+    } else {
+        entry
+    }
+}
+
+// The map after all blocks of the owners from low to high were freed: one owner's by (x, x), or those of several that have neighbouring numbers.
+pub fn release(map: [u8; BLOCK_COUNT], low: Owner, high: Owner) -> [u8; BLOCK_COUNT]
+    ensures { λ r. ⌜ r ≡ released (low .0) (high .0) map ⌝ }
+{
+    let first = low.0;
+    let last = high.0;
+    let mut after = map;
+    let mut i: usize = 0;
+    while i < BLOCK_COUNT {
+        after[i] = entry_after(after[i], first, last);
+        i += 1;
+    }
+    after
+}
+
+// The number of an owner's block at the place n, entry by entry; the map's length if it has not so many.
+fn scan(map: &[u8], owner: u8, n: usize) -> usize
+    ensures { λ r. ⌜ r ≡ placeOf owner n (now (map .entry)) ⌝ }
+{
+    let mut left = n;
+    let mut i: usize = 0;
+    while i < map.len() {
+        if map[i] == owner {
+            if left == 0 {
+                return i;
+            }
+            left -= 1;
+        }
+        i += 1;
+    }
+    i
+}
+
+// The same by groups: those before the block's group are counted, and only its own is gone through entry by entry.
+fn find_block(map: &[u8], owner: u8, n: usize) -> BlockNumber
+    ensures { λ r. ⌜ r .0 ≡ placeOf owner n (now (map .entry)) ⌝ }
+{
+    let mut left = n;
+    let mut from: usize = 0;
+    while GROUP <= map.len() - from {
+        let end = from + GROUP;
+        let here = wide(count_group(&map[from..end], owner));
+        if left < here {
+            let b = from + scan(&map[from..], owner, left);
+            return BlockNumber(b);
+        }
+        left -= here;
+        from = end;
+    }
+    let b = from + scan(&map[from..], owner, left);
+    BlockNumber(b)
+}
+
+// An owner's block at the place n, from 0, in rising order.
+pub fn nth_block(map: &[u8], owner: Owner, n: usize) -> Found
+    ensures { λ r. ⌜ r ≡ nthBlock (owner .0) n (now (map .entry)) ⌝ }
+{
+    let b = find_block(map, owner.0, n);
+    if b.0 < map.len() {
+        Found::Block(b)
+    } else {
+        Found::Missing
+    }
+}
+
+// Whether the block that lies so many blocks ahead starts inside so many bytes.
+fn starts_inside(ahead: usize, bytes: usize) -> bool
+    ensures { λ r. ⌜ r ≡ ltb (blockSize * ahead) bytes ⌝ }
+{
+    ahead < blocks_needed(bytes)
+}
+
+// Puts bytes over others from a place on, as far as those go.
+fn overwrite(source: &[u8], at: usize, target: &mut [u8])
+    ensures { λ _. ⌜ now (target .exit) ≡ over at (now (source .entry)) (now (target .entry)) ⌝ }
+{
+    if at < target.len() {
+        let n = least(source.len(), target.len() - at);
+        let end = at + n;
+        bytes::copy(&source[0..n], &mut target[at..end]);
+    }
+}
+
+// Puts a payload over the owner's blocks, from a place in the first one at or behind a block on: in each turn one block's share.
+// Both facts hold by themselves of what `append` found: a test here would cost a turn's time in every call.
+fn fill(map: &[u8], owner: u8, first: BlockNumber, at: usize, payload: &[u8], pool: &mut [u8])
+    requires { ⌜ (at < 256) × (first .0 ≤ length (now map)) ⌝ }
+    ensures { λ _. ⌜ now (pool .exit) ≡ appendedFrom owner (first .0) at (now (payload .entry)) (now (map .entry)) (now (pool .entry)) ⌝ }
+{
+    let mut b = first.0;
+    let mut place = at;
+    let mut done: usize = 0;
+    while done < payload.len() {
+        let k = b + scan(&map[b..], owner, 0);
+        if map.len() <= k {
+            return;
+        }
+        if starts_inside(k, pool.len()) {
+            let start = BLOCK_SIZE * k;
+            let end = start + least(BLOCK_SIZE, pool.len() - start);
+            overwrite(&payload[done..], place, &mut pool[start..end]);
+            done = done + least(BLOCK_SIZE - place, payload.len() - done);
+            place = 0;
+            b = k + 1;
+        } else {
+            return;
+        }
+    }
+}
+
+// Puts a payload right behind the first `at` bytes of the owner's blocks, across their borders. The blocks before are found by counting, not gone through.
+pub fn append(map: &[u8], owner: Owner, at: usize, payload: &[u8], pool: &mut [u8])
+    ensures { λ _. ⌜ now (pool .exit) ≡ appended (owner .0) at (now (payload .entry)) (now (map .entry)) (now (pool .entry)) ⌝ }
+{
+    let number = owner.0;
+    let place = at % BLOCK_SIZE;
+    let b = find_block(map, number, at / BLOCK_SIZE);
+    fill(map, number, b, place, payload, pool);
+}
+
+// Writes the first `due` bytes of the owner's blocks to the front of out: it copies one block and calls itself for the rest. Bytes still due fall.
+fn deliver_blocks(map: &[u8], owner: Owner, due: usize, pool: &[u8], out: &mut [u8])
+    ensures { λ _. ⌜ now (out .exit) ≡ delivered (owner .0) due (now (map .entry)) (now (pool .entry)) (now (out .entry)) ⌝ }
+{
+    if due == 0 {
+        return;
+    }
+    let ahead = scan(map, owner.0, 0);
+    if ahead < map.len() {
+        if starts_inside(ahead, pool.len()) {
+            let start = BLOCK_SIZE * ahead;
+            let size = least(BLOCK_SIZE, pool.len() - start);
+            let n = least(size, due);
+            let end = start + n;
+            overwrite(&pool[start..end], 0, out);
+            if n < out.len() {
+                let later = ahead + 1;
+                let behind = start + size;
+                deliver_blocks(
+                    &map[later..],
+                    owner,
+                    due - n,
+                    &pool[behind..],
+                    &mut out[n..],
+                );
+            }
+        }
+    }
+}
+
+// Writes the first `due` bytes of the owner's blocks to the front of out: some blocks one by one, and the rest by itself. Bytes still due fall.
+pub fn deliver(map: &[u8], owner: Owner, due: usize, pool: &[u8], out: &mut [u8])
+    ensures { λ _. ⌜ now (out .exit) ≡ delivered (owner .0) due (now (map .entry)) (now (pool .entry)) (now (out .entry)) ⌝ }
+{
+    let most = BLOCK_SIZE * AT_ONCE;
+    if due <= most {
+        deliver_blocks(map, owner, due, pool, out);
+        return;
+    }
+    deliver_blocks(map, owner, most, pool, out);
+    if most < out.len() {
+        let b = find_block(map, owner.0, AT_ONCE);
+        let from = b.0;
+        if starts_inside(from, pool.len()) {
+            let start = BLOCK_SIZE * from;
+            deliver(
+                &map[from..],
+                owner,
+                due - most,
+                &pool[start..],
+                &mut out[most..],
+            );
+        }
+    }
+}

@@ -1,0 +1,6 @@
+pub mod State
+pub mod Reply
+pub mod Call
+pub mod Book
+pub mod Claim
+pub mod Pages

@@ -1,0 +1,38 @@
+-- `room::tilambok_room_release` meets its contract: the map goes to `blocks` by value and back.
+-- Assumes nothing.
+use mathlib.Core.Path.{_∙_, ap}
+use mathlib.Core.List.{List}
+use Prim.Native.Nat.{ℕ}
+use borrow.Author.Tests.{eq-eqb, ne-eqb}
+use Rattle.blocks.specs.Map.{released}
+use Rattle.room.specs.Room.{ifWhole}
+use borrow.Author.Needs.{needs}
+use Rattle.room.proofs.tilambok_room_release.Statement.{statement}
+use Rattle.room.proofs.tilambok_room_release.Tie as tie
+
+array-of-requires : tie.Need-array-of-requires
+array-of-requires c κs = search needs
+
+release-requires : tie.Need-release-requires
+release-requires c κs = search needs
+
+put-back-requires : tie.Need-put-back-requires
+put-back-requires c κs = search needs
+
+same-length : tie.Need-same-length
+same-length c = search needs
+
+returns : tie.Need-returns
+unfolding ifWhole
+returns c =
+    let a = (c .before .before .before .before .before .before .before .before .before .args) in
+    (rw (eq-eqb _ _ (c .before .before .before .before .before .before .before .if1 .taken)), rw (eq-eqb _ _ (c .before .before .before .before .before .before .before .if1 .taken)) ((c .before .before .put-back .ensures) ∙ (c .before .before .before .before .release .ensures) ∙ ap (λ (m : List ℕ). released (a .low) (a .high) m) (c .before .before .before .before .before .array-of .ensures)))
+
+returns-2 : tie.Need-returns-2
+unfolding ifWhole
+returns-2 c = (rw (ne-eqb _ _ (c .if1 .left)), rw (ne-eqb _ _ (c .if1 .left)))
+
+pub tilambok-room-release-spec : {M : Type 1} → statement M
+tilambok-room-release-spec =
+    tie.close
+    (tie.spec array-of-requires release-requires put-back-requires same-length returns returns-2)

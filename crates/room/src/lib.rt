@@ -1,0 +1,107 @@
+// The reassembly room behind C functions: the way in for the comparison with an independent room and for its benchmark.
+// It holds no rule: each function calls its namesake of `blocks` on lent bytes. A map that is not 256 bytes long is left as it is.
+ghost use mathlib.Core.Path.{_≡_};
+ghost use mathlib.Core.List.{List};
+ghost use lib.Dec.{eqb, ltb};
+ghost use lib.ListN.{length};
+ghost use Rattle.numbers.specs.Bytes.{pick};
+ghost use Rattle.blocks.specs.Map.{neededFor, heldBy, claimed, released, placeOf};
+ghost use Rattle.blocks.specs.Pool.{appended, delivered};
+ghost use Rattle.room.specs.Room.{ifWhole, placeIn};
+use blocks::Found;
+use blocks::Owner;
+
+// The map by value.
+fn array_of(map: &[u8]) -> [u8; 256]
+    requires { ⌜ length (now map) ≡ 256 ⌝ }
+    ensures { λ r. ⌜ r ≡ now (map .entry) ⌝ }
+{
+    let mut array = [0u8; 256];
+    bytes::copy(map, &mut array);
+    array
+}
+
+// Puts a map back.
+fn put_back(array: [u8; 256], map: &mut [u8])
+    requires { ⌜ length (now map) ≡ 256 ⌝ }
+    ensures { λ _. ⌜ now (map .exit) ≡ array ⌝ }
+{
+    bytes::copy(&array, map);
+}
+
+#[no_mangle]
+pub extern "C" fn tilambok_room_needed(total: usize) -> usize
+    ensures { λ r. ⌜ r ≡ neededFor total ⌝ }
+{
+    blocks::blocks_needed(total)
+}
+
+#[no_mangle]
+pub extern "C" fn tilambok_room_held(map: &[u8], owner: u8) -> usize
+    ensures { λ r. ⌜ r ≡ heldBy owner (now (map .entry)) ⌝ }
+{
+    blocks::held(map, Owner(owner))
+}
+
+#[no_mangle]
+pub extern "C" fn tilambok_room_claim(map: &mut [u8], count: usize, owner: u8) -> u8
+    ensures { λ r. ⌜ r ≡ pick (eqb (length (now (map .entry))) 256) 1 0 ⌝ }
+    ensures { λ _. ⌜ now (map .exit) ≡ ifWhole (claimed owner count) (now (map .entry)) ⌝ }
+{
+    if map.len() == 256 {
+        let after = blocks::claim(array_of(map), count, Owner(owner));
+        put_back(after, map);
+        return 1;
+    }
+    0
+}
+
+#[no_mangle]
+pub extern "C" fn tilambok_room_release(map: &mut [u8], low: u8, high: u8) -> u8
+    ensures { λ r. ⌜ r ≡ pick (eqb (length (now (map .entry))) 256) 1 0 ⌝ }
+    ensures { λ _. ⌜ now (map .exit) ≡ ifWhole (released low high) (now (map .entry)) ⌝ }
+{
+    if map.len() == 256 {
+        let after = blocks::release(array_of(map), Owner(low), Owner(high));
+        put_back(after, map);
+        return 1;
+    }
+    0
+}
+
+#[no_mangle]
+pub extern "C" fn tilambok_room_append(
+    map: &[u8],
+    owner: u8,
+    at: usize,
+    payload: &[u8],
+    pool: &mut [u8],
+)
+    ensures { λ _. ⌜ now (pool .exit) ≡ appended owner at (now (payload .entry)) (now (map .entry)) (now (pool .entry)) ⌝ }
+{
+    blocks::append(map, Owner(owner), at, payload, pool);
+}
+
+#[no_mangle]
+pub extern "C" fn tilambok_room_deliver(
+    map: &[u8],
+    owner: u8,
+    due: usize,
+    pool: &[u8],
+    out: &mut [u8],
+)
+    ensures { λ _. ⌜ now (out .exit) ≡ delivered owner due (now (map .entry)) (now (pool .entry)) (now (out .entry)) ⌝ }
+{
+    blocks::deliver(map, Owner(owner), due, pool, out);
+}
+
+// The number of an owner's n-th block, or the map's length if it has not so many.
+#[no_mangle]
+pub extern "C" fn tilambok_room_block(map: &[u8], owner: u8, n: usize) -> usize
+    ensures { λ r. ⌜ r ≡ placeIn owner n (now (map .entry)) ⌝ }
+{
+    match blocks::nth_block(map, Owner(owner), n) {
+        Found::Block(block) => block.0,
+        Found::Missing => map.len(),
+    }
+}
