@@ -1,3 +1,6 @@
 pub mod Lists
 pub mod Shown
 pub mod Created
+pub mod Refusals
+pub mod Replies
+pub mod Figures

@@ -4,3 +4,4 @@ pub mod Call
 pub mod Book
 pub mod Claim
 pub mod Pages
+pub mod Figures
