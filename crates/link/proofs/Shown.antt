@@ -18,7 +18,7 @@ use Rattle.link.specs.Book.{there}
 use Rattle.link.specs.Claim.{State, isOpen}
 use Rattle.link.specs.Pages.{rowOf, pageIf, pages, Sane}
 
-and-both : (b c : Bool) → b && c ≡ true → (b ≡ true) × (c ≡ true)
+pub and-both : (b c : Bool) → b && c ≡ true → (b ≡ true) × (c ≡ true)
 and-both true c e = (refl, e)
 and-both false c e = (e, cc)
 

@@ -1,0 +1,142 @@
+-- What a session holds: exactly the blocks that its messages in the book need, and at most its cap. By the state rules at its row.
+-- Assumes nothing.
+use Prim.Native.Nat.{ℕ, zero, suc, _+_, _≤_, _<_}
+use mathlib.Core.Path.{_≡_, refl, ap, _∙_, sym, subst}
+use mathlib.Core.Bool.{Bool, true, false, _&&_, not}
+use mathlib.Core.Option.{Option, none, some}
+use mathlib.Core.List.{List, [], _∷_}
+use native.Mathlib.Omega.{arith}
+use lib.Dec.{eqb, ltb, leb}
+use lib.ListN.{length, getD}
+use borrow.Author.Tests.{eqb-true, leb-true, ltb-true, eq-eqb, ne-eqb}
+use Rattle.numbers.specs.Bytes.{pick}
+use Rattle.blocks.specs.Map.{heldBy, heldByAll}
+use Rattle.session.specs.declared.Reassembly.{Reassembly}
+use Rattle.session.specs.declared.Row.{Row}
+use Rattle.session.specs.Rows.{noRow}
+use Rattle.session.specs.Decide.{needOf, heldIn, heldOf, heldBy as heldFor}
+use Rattle.link.specs.State.{indexOf, ownerOf, allFrom, roomFits, versionAllowed, unsettledFits, messageFits, blocksFit, freeFits, rowFits}
+use Rattle.link.specs.Book.{Note, Page, needsIn, needsOf}
+use Rattle.link.specs.Claim.{State, isOpen, blocksOf}
+use Rattle.link.specs.Pages.{rowOf, noteOf, notesFrom, pageOf, pageIf, pages, FiveEach, Sane}
+use Rattle.link.proofs.Shown.{and-both, rules-say}
+
+-- a test of all holds at each
+pub all-at : {A : Type 0} (d : A) (test : ℕ → A → Bool) (n : ℕ) (l : List A) (k : ℕ) → allFrom n test l ≡ true → k < length l → test (n + k) (getD l k d) ≡ true
+all-at d test n [] k e h = absurd (omega arith)
+all-at d test n (a ∷ l) zero e h =
+    let z : n + 0 ≡ n = omega arith in
+    rw z (and-both (test n a) (allFrom (suc n) test l) e .0)
+all-at d test n (a ∷ l) (suc k) e h =
+    let z : n + suc k ≡ suc n + k = omega arith in
+    rw z (all-at d test (suc n) l k (and-both (test n a) (allFrom (suc n) test l) e .1) (omega arith))
+
+pub five-at : (rs : List Row) (k : ℕ) → FiveEach rs → k < length rs → length (getD rs k noRow .messages) ≡ 5
+five-at [] k f h = absurd (omega arith)
+five-at (r ∷ rs) zero f h = f .0
+five-at (r ∷ rs) (suc k) f h = five-at rs k (f .1) (omega arith)
+
+-- a row's owners follow one another
+owner-next : (i place : ℕ) → ownerOf i (suc place) ≡ suc (ownerOf i place)
+unfolding ownerOf
+owner-next i place = omega arith
+
+-- a message's need in the book is what it holds
+pick-need : (b : Bool) (x y : Note) → pick b x y .need ≡ pick b (x .need) (y .need)
+pick-need true x y = refl
+pick-need false x y = refl
+
+note-need : (s : State) (i place : ℕ) (m : Reassembly) → noteOf s i place m .need ≡ pick (m .live) (needOf (m .total)) 0
+unfolding noteOf
+note-need s i place m = pick-need (m .live) _ _
+
+-- the blocks counted in the map are the needs in the book, from a place on
+counted : (s : State) (i place : ℕ) (ms : List Reassembly)
+    → allFrom place (λ (q : ℕ) (m : Reassembly). eqb (heldBy (ownerOf i q) (s .link .owners)) (pick (m .live) (needOf (m .total)) 0)) ms ≡ true
+    → heldByAll (ownerOf i place) (length ms) (s .link .owners) ≡ needsIn (notesFrom s i place ms)
+unfolding heldByAll needsIn notesFrom
+counted s i place [] e = refl
+counted s i place (m ∷ ms) e =
+    let o : List ℕ = s .link .owners in
+    let p = and-both (eqb (heldBy (ownerOf i place) o) (pick (m .live) (needOf (m .total)) 0)) _ e in
+    let here : heldBy (ownerOf i place) o ≡ noteOf s i place m .need = eqb-true _ _ (p .0) ∙ sym (note-need s i place m) in
+    let rest : heldByAll (suc (ownerOf i place)) (length ms) o ≡ needsIn (notesFrom s i (suc place) ms)
+               = ap (λ (n : ℕ). heldByAll n (length ms) o) (sym (owner-next i place)) ∙ counted s i (suc place) ms (p .1) in
+    rw (here, rest)
+
+-- the needs in the book are what the row's messages hold
+needs-held : (s : State) (i place : ℕ) (ms : List Reassembly) → needsIn (notesFrom s i place ms) ≡ heldIn ms
+unfolding needsIn notesFrom heldIn heldFor
+needs-held s i place [] = refl
+needs-held s i place (m ∷ ms) = rw (note-need s i place m, needs-held s i (suc place) ms)
+
+-- an open session's page is read off its row
+pub page-row : (s : State) (i : ℕ) (p : Page) → pages s i ≡ some p → (isOpen s i ≡ true) × (p ≡ pageOf s (indexOf i (s .link .rows)) (getD (s .link .rows) (indexOf i (s .link .rows)) noRow))
+unfolding pages rowOf
+page-row s i p e = byOpen (isOpen s i) (getD (s .link .rows) (indexOf i (s .link .rows)) noRow) (indexOf i (s .link .rows)) e
+  where
+    byOpen : (b : Bool) (r : Row) (n : ℕ) → pageIf s n (pick b (some r) none) ≡ some p → (b ≡ true) × (p ≡ pageOf s n r)
+    byOpen true r n q = (refl, cc)
+    byOpen false r n q = let z : _≡_ {A = ℕ} 0 1 = cc in absurd (omega arith)
+
+-- an open session's row is in the table
+pub open-index : (s : State) (i : ℕ) → isOpen s i ≡ true → (i ≡ 0 → ⊥) × (indexOf i (s .link .rows) < length (s .link .rows))
+unfolding isOpen
+open-index s i e =
+    let p = and-both (not (eqb i 0)) (ltb (indexOf i (s .link .rows)) (length (s .link .rows))) e in
+    ((λ z. not-zero (eqb i 0) (eq-eqb i 0 z) (p .0)), ltb-true (indexOf i (s .link .rows)) (length (s .link .rows)) (p .1))
+  where
+    not-zero : (b : Bool) → b ≡ true → not b ≡ true → ⊥
+    not-zero true f g = let z : _≡_ {A = ℕ} 0 1 = cc in omega arith
+    not-zero false f g = let z : _≡_ {A = ℕ} 0 1 = cc in omega arith
+
+-- an open row's rules
+pub record OpenRow (major i : ℕ) (owners : List ℕ) (r : Row) : Type 0 where
+  pub blocks : blocksFit owners i r ≡ true
+  pub room : roomFits r ≡ true
+  pub version : versionAllowed major (r .version) ≡ true
+  pub unsettled : unsettledFits r ≡ true
+  pub messages : allFrom 0 (messageFits r) (r .messages) ≡ true
+
+pub row-rules : (major i : ℕ) (owners : List ℕ) (r : Row) → rowFits major owners i r ≡ true → (r .id .0 ≡ 0 → ⊥) → OpenRow major i owners r
+unfolding rowFits
+row-rules major i owners r e n =
+    let p = and-both (blocksFit owners i r) _ e in
+    let q : roomFits r && (versionAllowed major (r .version) && (unsettledFits r && allFrom 0 (messageFits r) (r .messages))) ≡ true = rw (ne-eqb (r .id .0) 0 n) at (p .1) in
+    let a = and-both (roomFits r) _ q in
+    let b = and-both (versionAllowed major (r .version)) _ (a .1) in
+    let c = and-both (unsettledFits r) _ (b .1) in
+    record { blocks = p .0; room = a .0; version = b .0; unsettled = c .0; messages = c .1 }
+
+-- the row that an id leads to has it
+pub index-id : (i : ℕ) (rs : List Row) → indexOf i rs < length rs → getD rs (indexOf i rs) noRow .id .0 ≡ i
+unfolding indexOf
+index-id i [] h = absurd (omega arith)
+index-id i (r ∷ rs) h = byTest (λ g. index-id i rs g) (eqb (r .id .0) i) refl h
+  where
+    byTest : (indexOf i rs < length rs → getD rs (indexOf i rs) noRow .id .0 ≡ i) → (b : Bool) → eqb (r .id .0) i ≡ b → pick b 0 (suc (indexOf i rs)) < suc (length rs) → getD (r ∷ rs) (pick b 0 (suc (indexOf i rs))) noRow .id .0 ≡ i
+    byTest later true e g = eqb-true (r .id .0) i e
+    byTest later false e g = later (omega arith)
+
+-- "each holds exactly the blocks that its messages in the book need, counted in the block map, at most its cap"
+pub holds : (s : State) (i : ℕ) (p : Page) → Sane s → pages s i ≡ some p → (blocksOf s i ≡ needsOf p) × (needsOf p ≤ p .cap)
+unfolding blocksOf blocksFit roomFits
+holds s i p k e =
+    let rs : List Row = s .link .rows in
+    let n : ℕ = indexOf i rs in
+    let r : Row = getD rs n noRow in
+    let q = page-row s i p e in
+    let o = open-index s i (q .0) in
+    let z : r .id .0 ≡ 0 → ⊥ = λ x. o .0 (sym (index-id i rs (o .1)) ∙ x) in
+    let y : 0 + n ≡ n = omega arith in
+    let t : rowFits (s .link .version .major) (s .link .owners) n r ≡ true
+            = rw y at (all-at noRow (rowFits (s .link .version .major) (s .link .owners)) 0 rs n (rules-say (s .link) (k .rules) .rows) (o .1)) in
+    let f : OpenRow (s .link .version .major) n (s .link .owners) r = row-rules (s .link .version .major) n (s .link .owners) r t z in
+    let five : length (r .messages) ≡ 5 = five-at rs n (k .five) (o .1) in
+    let needs : needsOf p ≡ needsIn (notesFrom s n 0 (r .messages)) = ap (λ (x : Page). needsOf x) (q .1) in
+    let cap : p .cap ≡ r .cap = ap (λ (x : Page). x .cap) (q .1) in
+    let c : heldByAll (ownerOf n 0) 5 (s .link .owners) ≡ needsIn (notesFrom s n 0 (r .messages))
+            = ap (λ (x : ℕ). heldByAll (ownerOf n 0) x (s .link .owners)) (sym five) ∙ counted s n 0 (r .messages) (f .blocks) in
+    let a = and-both (leb (r .guarantee) (r .cap)) _ (f .room) in
+    let b = and-both (leb (r .cap) 256) (leb (heldOf r) (r .cap)) (a .1) in
+    (c ∙ sym needs, omega (arith, leb-true (heldOf r) (r .cap) (b .1), needs-held s n 0 (r .messages)))
