@@ -61,7 +61,7 @@ counted s i place (m ∷ ms) e =
     let p = and-both (eqb (heldBy (ownerOf i place) o) (pick (m .live) (needOf (m .total)) 0)) _ e in
     let here : heldBy (ownerOf i place) o ≡ noteOf s i place m .need = eqb-true _ _ (p .0) ∙ sym (note-need s i place m) in
     let rest : heldByAll (suc (ownerOf i place)) (length ms) o ≡ needsIn (notesFrom s i (suc place) ms)
-               = ap (λ (n : ℕ). heldByAll n (length ms) o) (sym (owner-next i place)) ∙ counted s i (suc place) ms (p .1) in
+    = ap (λ (n : ℕ). heldByAll n (length ms) o) (sym (owner-next i place)) ∙ counted s i (suc place) ms (p .1) in
     rw (here, rest)
 
 -- the needs in the book are what the row's messages hold
@@ -130,13 +130,13 @@ holds s i p k e =
     let z : r .id .0 ≡ 0 → ⊥ = λ x. o .0 (sym (index-id i rs (o .1)) ∙ x) in
     let y : 0 + n ≡ n = omega arith in
     let t : rowFits (s .link .version .major) (s .link .owners) n r ≡ true
-            = rw y at (all-at noRow (rowFits (s .link .version .major) (s .link .owners)) 0 rs n (rules-say (s .link) (k .rules) .rows) (o .1)) in
+    = rw y at (all-at noRow (rowFits (s .link .version .major) (s .link .owners)) 0 rs n (rules-say (s .link) (k .rules) .rows) (o .1)) in
     let f : OpenRow (s .link .version .major) n (s .link .owners) r = row-rules (s .link .version .major) n (s .link .owners) r t z in
     let five : length (r .messages) ≡ 5 = five-at rs n (k .five) (o .1) in
     let needs : needsOf p ≡ needsIn (notesFrom s n 0 (r .messages)) = ap (λ (x : Page). needsOf x) (q .1) in
     let cap : p .cap ≡ r .cap = ap (λ (x : Page). x .cap) (q .1) in
     let c : heldByAll (ownerOf n 0) 5 (s .link .owners) ≡ needsIn (notesFrom s n 0 (r .messages))
-            = ap (λ (x : ℕ). heldByAll (ownerOf n 0) x (s .link .owners)) (sym five) ∙ counted s n 0 (r .messages) (f .blocks) in
+    = ap (λ (x : ℕ). heldByAll (ownerOf n 0) x (s .link .owners)) (sym five) ∙ counted s n 0 (r .messages) (f .blocks) in
     let a = and-both (leb (r .guarantee) (r .cap)) _ (f .room) in
     let b = and-both (leb (r .cap) 256) (leb (heldOf r) (r .cap)) (a .1) in
     (c ∙ sym needs, omega (arith, leb-true (heldOf r) (r .cap) (b .1), needs-held s n 0 (r .messages)))

@@ -1,5 +1,6 @@
 pub mod Lists
 pub mod Shown
+pub mod Table
 pub mod Holdings
 pub mod Created
 pub mod Refusals

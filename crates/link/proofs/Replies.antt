@@ -39,7 +39,7 @@ module _ (v : ℕ) (service : ServiceType) (info session : ℕ) (payload : List 
         service = listed;
         info = fits;
         flag = refl;
-        size = le-leb (length payload) (largest v) (omega (arith, largest-range v))
+        size = le-leb (length payload) (largest v) (omega (arith, largest-range v));
       })
 
   reply-same : (message : ℕ) → replyBytes v service info session message payload ≡ frameBytes (meant message) payload

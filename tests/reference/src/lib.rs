@@ -6,6 +6,7 @@
 //! documents, never from the other program's text.
 //!
 //! - [`frame`], [`sender`], [`payload`], [`refusal`]: the rules of the protocol.
+//! - [`room`]: the blocks that open messages share.
 //! - [`text`]: hexadecimal and decimal words.
 //! - [`driver`]: script lines in, answer lines out.
 //! - [`generate`]: scripts to compare two programs on.
@@ -15,5 +16,6 @@ pub mod frame;
 pub mod generate;
 pub mod payload;
 pub mod refusal;
+pub mod room;
 pub mod sender;
 pub mod text;

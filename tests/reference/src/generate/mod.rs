@@ -9,7 +9,7 @@ mod elements;
 mod headers;
 mod odd_lines;
 mod payload_lines;
-mod random;
+pub mod random;
 mod read_lines;
 mod send_lines;
 mod values;

@@ -1,0 +1,494 @@
+-- The table of rows: where an id stands, and what storing a row at an index does to ids, sums, tests and the lowest free id. For any rows.
+-- By induction along the list; the last by counting the ids that rows can take. Assumes nothing.
+use Prim.Native.Nat.{ℕ, zero, suc, _+_, _-_, _≤_, _<_, max}
+use mathlib.Core.Path.{_≡_, refl, ap, sym, subst, _∙_}
+use mathlib.Core.Logic.{_≢_}
+use mathlib.Core.Bool.{Bool, true, false, _&&_, _||_}
+use mathlib.Core.List.{List, [], _∷_}
+use native.Mathlib.Omega.{arith}
+use lib.Dec.{eqb, ltb}
+use lib.ListN.{length, getD, set, length-set}
+use lib.Seq.{getD-set-same, getD-set-other}
+use borrow.Author.Tests.{eqb-true, eqb-false, eq-eqb, ne-eqb, lt-ltb, le-ltb}
+use Rattle.numbers.specs.Bytes.{pick}
+use Rattle.session.specs.declared.Row.{Row}
+use Rattle.frame.specs.declared.SessionId.{SessionId}
+use Rattle.session.specs.Rows.{noRow, freeRow, openedRow}
+use Rattle.session.specs.Decide.{heldBy, heldIn, heldOf, shareOf}
+use Rattle.link.specs.State.{indexOf, all, allFrom, sharesIn, distinctIds, lowestFree}
+use Rattle.link.specs.Book.{Book, there, lowestIn}
+use Rattle.link.specs.Pages.{FiveEach}
+
+-- ---- cases
+
+-- cases on a test, with its equation: the motive has the test's value for a variable
+pub onTest : (P : Bool → Type 0) (b : Bool) → (b ≡ true → P true) → (b ≡ false → P false) → P b
+onTest P true f g = f refl
+onTest P false f g = g refl
+
+-- two numbers are equal, or not
+pub either : {P : Type 0} (a b : ℕ) → (a ≡ b → P) → (a ≢ b → P) → P
+either {P} a b f g = onTest (λ (t : Bool). P) (eqb a b) (λ e. f (eqb-true a b e)) (λ e. g (eqb-false a b e))
+
+-- the first of two tests that hold together
+pub and-left : (a b : Bool) → a && b ≡ true → a ≡ true
+and-left true b e = refl
+and-left false b e = e
+
+-- the second of them
+pub and-right : (a b : Bool) → a && b ≡ true → b ≡ true
+and-right true b e = e
+and-right false b e = let z : _≡_ {A = ℕ} 0 1 = cc in absurd (omega arith)
+
+-- and back
+pub and-both : (a b : Bool) → a ≡ true → b ≡ true → a && b ≡ true
+and-both true b p q = q
+and-both false b p q = p
+
+-- ---- 1. where an id stands
+
+-- the id of the row at an index; 0 past the last
+abbrev pub idAt : List Row → ℕ → ℕ
+idAt rs k = getD rs k noRow .id .0
+
+-- the first row has the id
+pub index-here : (i : ℕ) (r : Row) (rs : List Row) → r .id .0 ≡ i → indexOf i (r ∷ rs) ≡ 0
+unfolding indexOf
+index-here i r rs e = ap (λ (t : Bool). pick t 0 (suc (indexOf i rs))) (eq-eqb (r .id .0) i e)
+
+-- the first row has another
+pub index-later : (i : ℕ) (r : Row) (rs : List Row) → r .id .0 ≢ i → indexOf i (r ∷ rs) ≡ suc (indexOf i rs)
+unfolding indexOf
+index-later i r rs n = ap (λ (t : Bool). pick t 0 (suc (indexOf i rs))) (ne-eqb (r .id .0) i n)
+
+-- no rows
+pub index-none : (i : ℕ) → indexOf i [] ≡ 0
+unfolding indexOf
+index-none i = refl
+
+-- at most the number of rows
+pub index-below : (i : ℕ) (rs : List Row) → indexOf i rs ≤ length rs
+index-below i [] = omega (arith, index-none i)
+index-below i (r ∷ rs) =
+    either (r .id .0) i
+    (λ e. omega (arith, index-here i r rs e))
+    (λ n. omega (arith, index-later i r rs n, index-below i rs))
+
+-- the row found has the id
+pub index-row : (i : ℕ) (rs : List Row) → indexOf i rs < length rs → idAt rs (indexOf i rs) ≡ i
+index-row i [] h = absurd (omega arith)
+index-row i (r ∷ rs) h =
+    either (r .id .0) i
+    (λ e. ap (λ (k : ℕ). idAt (r ∷ rs) k) (index-here i r rs e) ∙ e)
+    (λ n. ap (λ (k : ℕ). idAt (r ∷ rs) k) (index-later i r rs n) ∙ index-row i rs (omega (arith, index-later i r rs n)))
+
+-- it is the first that has it
+pub index-first : (i : ℕ) (rs : List Row) (j : ℕ) → j < length rs → idAt rs j ≡ i → indexOf i rs ≤ j
+index-first i [] j h e = absurd (omega arith)
+index-first i (r ∷ rs) zero h e = omega (arith, index-here i r rs e)
+index-first i (r ∷ rs) (suc j) h e =
+    either (r .id .0) i
+    (λ q. omega (arith, index-here i r rs q))
+    (λ n. omega (arith, index-later i r rs n, index-first i rs j (omega arith) e))
+
+-- an index past the last: no row has the id
+pub index-missing : (i : ℕ) (rs : List Row) → indexOf i rs ≡ length rs → (j : ℕ) → j < length rs → idAt rs j ≢ i
+index-missing i rs e j h q = omega (arith, index-first i rs j h q)
+
+-- and back
+pub missing-index : (i : ℕ) (rs : List Row) → ((j : ℕ) → j < length rs → idAt rs j ≢ i) → indexOf i rs ≡ length rs
+missing-index i rs f =
+    either (indexOf i rs) (length rs)
+    (λ e. e)
+    (λ n. let h : indexOf i rs < length rs = omega (arith, index-below i rs) in absurd (f (indexOf i rs) h (index-row i rs h)))
+
+-- nor has the first
+pub missing-head : (i : ℕ) (r : Row) (rs : List Row) → indexOf i (r ∷ rs) ≡ length (r ∷ rs) → r .id .0 ≢ i
+missing-head i r rs e q = omega (arith, index-here i r rs q)
+
+-- nor the rest
+pub missing-tail : (i : ℕ) (r : Row) (rs : List Row) → indexOf i (r ∷ rs) ≡ length (r ∷ rs) → indexOf i rs ≡ length rs
+missing-tail i r rs e = omega (arith, index-later i r rs (missing-head i r rs e))
+
+-- and back
+pub missing-cons : (i : ℕ) (r : Row) (rs : List Row) → r .id .0 ≢ i → indexOf i rs ≡ length rs → indexOf i (r ∷ rs) ≡ length (r ∷ rs)
+missing-cons i r rs n e = index-later i r rs n ∙ ap suc e
+
+-- distinct ids: no later row has the first one's
+pub distinct-head : (r : Row) (rs : List Row) → distinctIds (r ∷ rs) ≡ true → r .id .0 ≢ 0 → indexOf (r .id .0) rs ≡ length rs
+unfolding distinctIds
+distinct-head r rs e n =
+    let t : (eqb (r .id .0) 0 || eqb (indexOf (r .id .0) rs) (length rs)) ≡ true = and-left (eqb (r .id .0) 0 || eqb (indexOf (r .id .0) rs) (length rs)) (distinctIds rs) e in
+    let q : eqb (indexOf (r .id .0) rs) (length rs) ≡ true = ap (λ (b : Bool). b || eqb (indexOf (r .id .0) rs) (length rs)) (sym (ne-eqb (r .id .0) 0 n)) ∙ t in
+    eqb-true (indexOf (r .id .0) rs) (length rs) q
+
+-- the rest has distinct ids
+pub distinct-tail : (r : Row) (rs : List Row) → distinctIds (r ∷ rs) ≡ true → distinctIds rs ≡ true
+unfolding distinctIds
+distinct-tail r rs e = and-right (eqb (r .id .0) 0 || eqb (indexOf (r .id .0) rs) (length rs)) (distinctIds rs) e
+
+-- and back
+pub distinct-cons : (r : Row) (rs : List Row) → (r .id .0 ≢ 0 → indexOf (r .id .0) rs ≡ length rs) → distinctIds rs ≡ true → distinctIds (r ∷ rs) ≡ true
+unfolding distinctIds
+distinct-cons r rs f e =
+    and-both (eqb (r .id .0) 0 || eqb (indexOf (r .id .0) rs) (length rs)) (distinctIds rs)
+    (onTest (λ (t : Bool). t || eqb (indexOf (r .id .0) rs) (length rs) ≡ true) (eqb (r .id .0) 0)
+    (λ q. refl)
+    (λ q. eq-eqb (indexOf (r .id .0) rs) (length rs) (f (eqb-false (r .id .0) 0 q))))
+    e
+
+-- where ids are distinct, only one row has an id other than 0
+pub index-unique : (i : ℕ) (rs : List Row) (j : ℕ) → distinctIds rs ≡ true → j < length rs → idAt rs j ≡ i → i ≢ 0 → j ≡ indexOf i rs
+index-unique i [] j g h e z = absurd (omega arith)
+index-unique i (r ∷ rs) zero g h e z = sym (index-here i r rs e)
+index-unique i (r ∷ rs) (suc j) g h e z =
+    either (r .id .0) i
+    (λ q. let m : indexOf i rs ≡ length rs = subst (λ (k : ℕ). indexOf k rs ≡ length rs) q (distinct-head r rs g (λ w. z (sym q ∙ w))) in
+    absurd (index-missing i rs m j (omega arith) e))
+    (λ n. ap suc (index-unique i rs j (distinct-tail r rs g) (omega arith) e z) ∙ sym (index-later i r rs n))
+
+-- ---- 2. storing a row
+
+-- an id that neither the old nor the new row has stands where it stood
+pub index-set-other : (i : ℕ) (rs : List Row) (k : ℕ) (r : Row) → idAt rs k ≢ i → r .id .0 ≢ i → indexOf i (set rs k r) ≡ indexOf i rs
+index-set-other i [] k r a b = refl
+index-set-other i (q ∷ rs) zero r a b = index-later i r rs b ∙ sym (index-later i q rs a)
+index-set-other i (q ∷ rs) (suc k) r a b =
+    either (q .id .0) i
+    (λ e. index-here i q (set rs k r) e ∙ sym (index-here i q rs e))
+    (λ n. index-later i q (set rs k r) n ∙ ap suc (index-set-other i rs k r a b) ∙ sym (index-later i q rs n))
+
+-- a row that keeps the id changes no index
+pub index-set-same : (i : ℕ) (rs : List Row) (k : ℕ) (r : Row) → r .id .0 ≡ idAt rs k → indexOf i (set rs k r) ≡ indexOf i rs
+index-set-same i [] k r e = refl
+index-set-same i (q ∷ rs) zero r e =
+    either (q .id .0) i
+    (λ h. index-here i r rs (e ∙ h) ∙ sym (index-here i q rs h))
+    (λ n. index-later i r rs (λ h. n (sym e ∙ h)) ∙ sym (index-later i q rs n))
+index-set-same i (q ∷ rs) (suc k) r e =
+    either (q .id .0) i
+    (λ h. index-here i q (set rs k r) h ∙ sym (index-here i q rs h))
+    (λ n. index-later i q (set rs k r) n ∙ ap suc (index-set-same i rs k r e) ∙ sym (index-later i q rs n))
+
+-- an id that no row had stands where its row was stored
+pub index-set-new : (i : ℕ) (rs : List Row) (k : ℕ) (r : Row) → k < length rs → indexOf i rs ≡ length rs → r .id .0 ≡ i → indexOf i (set rs k r) ≡ k
+index-set-new i [] k r h m e = absurd (omega arith)
+index-set-new i (q ∷ rs) zero r h m e = index-here i r rs e
+index-set-new i (q ∷ rs) (suc k) r h m e =
+    index-later i q (set rs k r) (missing-head i q rs m) ∙ ap suc (index-set-new i rs k r (omega arith) (missing-tail i q rs m) e)
+
+-- an id that no row had is in none after a row without it
+pub missing-set : (i : ℕ) (rs : List Row) (k : ℕ) (r : Row) → indexOf i rs ≡ length rs → r .id .0 ≢ i → indexOf i (set rs k r) ≡ length (set rs k r)
+missing-set i [] k r m n = m
+missing-set i (q ∷ rs) zero r m n = missing-cons i r rs n (missing-tail i q rs m)
+missing-set i (q ∷ rs) (suc k) r m n = missing-cons i q (set rs k r) (missing-head i q rs m) (missing-set i rs k r (missing-tail i q rs m) n)
+
+-- an id whose one row is stored over is in none
+pub index-set-gone : (i : ℕ) (rs : List Row) (k : ℕ) (r : Row) → distinctIds rs ≡ true → k < length rs → idAt rs k ≡ i → i ≢ 0 → r .id .0 ≢ i
+    → indexOf i (set rs k r) ≡ length (set rs k r)
+index-set-gone i [] k r g h e z n = absurd (omega arith)
+index-set-gone i (q ∷ rs) zero r g h e z n =
+    missing-cons i r rs n (subst (λ (x : ℕ). indexOf x rs ≡ length rs) e (distinct-head q rs g (λ w. z (sym e ∙ w))))
+index-set-gone i (q ∷ rs) (suc k) r g h e z n =
+    let t : distinctIds rs ≡ true = distinct-tail q rs g in
+    missing-cons i q (set rs k r)
+    (λ w. let m : indexOf i rs ≡ length rs = subst (λ (x : ℕ). indexOf x rs ≡ length rs) w (distinct-head q rs g (λ v. z (sym w ∙ v))) in
+    index-missing i rs m k (omega arith) e)
+    (index-set-gone i rs k r t (omega arith) e z n)
+
+-- ---- 3. distinct ids after storing
+
+-- a row that keeps the id
+pub distinct-set-same : (rs : List Row) (k : ℕ) (r : Row) → r .id .0 ≡ idAt rs k → distinctIds rs ≡ true → distinctIds (set rs k r) ≡ true
+distinct-set-same [] k r e g = g
+distinct-set-same (q ∷ rs) zero r e g =
+    distinct-cons r rs (λ n. subst (λ (x : ℕ). indexOf x rs ≡ length rs) (sym e) (distinct-head q rs g (λ w. n (e ∙ w)))) (distinct-tail q rs g)
+distinct-set-same (q ∷ rs) (suc k) r e g =
+    distinct-cons q (set rs k r)
+    (λ n. index-set-same (q .id .0) rs k r e ∙ distinct-head q rs g n ∙ sym (length-set rs k r))
+    (distinct-set-same rs k r e (distinct-tail q rs g))
+
+-- a free row: closing
+pub distinct-set-free : (rs : List Row) (k : ℕ) (r : Row) → r .id .0 ≡ 0 → distinctIds rs ≡ true → distinctIds (set rs k r) ≡ true
+distinct-set-free [] k r e g = g
+distinct-set-free (q ∷ rs) zero r e g = distinct-cons r rs (λ n. absurd (n e)) (distinct-tail q rs g)
+distinct-set-free (q ∷ rs) (suc k) r e g =
+    distinct-cons q (set rs k r)
+    (λ n. missing-set (q .id .0) rs k r (distinct-head q rs g n) (λ w. n (sym w ∙ e)))
+    (distinct-set-free rs k r e (distinct-tail q rs g))
+
+-- a row with an id that no row has: opening
+pub distinct-set-new : (rs : List Row) (k : ℕ) (r : Row) → indexOf (r .id .0) rs ≡ length rs → distinctIds rs ≡ true → distinctIds (set rs k r) ≡ true
+distinct-set-new [] k r m g = g
+distinct-set-new (q ∷ rs) zero r m g = distinct-cons r rs (λ n. missing-tail (r .id .0) q rs m) (distinct-tail q rs g)
+distinct-set-new (q ∷ rs) (suc k) r m g =
+    distinct-cons q (set rs k r)
+    (λ n. missing-set (q .id .0) rs k r (distinct-head q rs g n) (λ w. missing-head (r .id .0) q rs m (sym w)))
+    (distinct-set-new rs k r (missing-tail (r .id .0) q rs m) (distinct-tail q rs g))
+
+-- ---- 4. the sum of shares
+
+-- a row's share goes out, another's comes in
+pub shares-set : (rs : List Row) (k : ℕ) (r : Row) → k < length rs → sharesIn (set rs k r) + shareOf (getD rs k noRow) ≡ sharesIn rs + shareOf r
+unfolding sharesIn
+shares-set [] k r h = absurd (omega arith)
+shares-set (q ∷ rs) zero r h = omega arith
+shares-set (q ∷ rs) (suc k) r h = omega (arith, shares-set rs k r (omega arith))
+
+-- each share is part of the sum
+pub share-below : (rs : List Row) (k : ℕ) → k < length rs → shareOf (getD rs k noRow) ≤ sharesIn rs
+unfolding sharesIn
+share-below [] k h = absurd (omega arith)
+share-below (q ∷ rs) zero h = omega arith
+share-below (q ∷ rs) (suc k) h = omega (arith, share-below rs k (omega arith))
+
+-- the sum after storing, as the others' shares and the new one
+pub shares-after : (rs : List Row) (k : ℕ) (r : Row) → k < length rs → sharesIn (set rs k r) ≡ (sharesIn rs - shareOf (getD rs k noRow)) + shareOf r
+shares-after rs k r h = omega (arith, shares-set rs k r h, share-below rs k h)
+
+-- no larger share, no larger sum
+pub shares-less : (rs : List Row) (k : ℕ) (r : Row) → k < length rs → shareOf r ≤ shareOf (getD rs k noRow) → sharesIn (set rs k r) ≤ sharesIn rs
+shares-less rs k r h p = omega (arith, shares-set rs k r h)
+
+-- the same share, the same sum
+pub shares-same : (rs : List Row) (k : ℕ) (r : Row) → k < length rs → shareOf r ≡ shareOf (getD rs k noRow) → sharesIn (set rs k r) ≡ sharesIn rs
+shares-same rs k r h p = omega (arith, shares-set rs k r h)
+
+-- no more than the sum before and the new share
+pub shares-open : (rs : List Row) (k : ℕ) (r : Row) → k < length rs → sharesIn (set rs k r) ≤ sharesIn rs + shareOf r
+shares-open rs k r h = omega (arith, shares-set rs k r h)
+
+-- the others' shares and the new one within a bound
+pub shares-room : (rs : List Row) (k : ℕ) (r : Row) (most : ℕ) → k < length rs → (sharesIn rs - shareOf (getD rs k noRow)) + shareOf r ≤ most → sharesIn (set rs k r) ≤ most
+shares-room rs k r most h p = omega (arith, shares-after rs k r h)
+
+-- the room check that a First Frame passed: the new row holds so much, under the old guarantee
+pub shares-claim : (rs : List Row) (k : ℕ) (r : Row) (held most : ℕ) → k < length rs → heldOf r ≡ held → r .guarantee ≡ getD rs k noRow .guarantee
+    → (sharesIn rs - shareOf (getD rs k noRow)) + max held (getD rs k noRow .guarantee) ≤ most → sharesIn (set rs k r) ≤ most
+shares-claim rs k r held most h e g p = omega (arith, shares-after rs k r h)
+
+-- within its guarantee a row finds room, whatever the others hold
+pub shares-modest : (rs : List Row) (k held most : ℕ) → k < length rs → sharesIn rs ≤ most → held ≤ getD rs k noRow .guarantee
+    → (sharesIn rs - shareOf (getD rs k noRow)) + max held (getD rs k noRow .guarantee) ≤ most
+shares-modest rs k held most h s p = omega (arith, share-below rs k h)
+
+-- ---- 5. tests of all rows
+
+module _ {A : Type 0} where
+  -- a test of all, at one place
+  pub all-at : (d : A) (n : ℕ) (test : ℕ → A → Bool) (l : List A) (k : ℕ) → allFrom n test l ≡ true → k < length l → test (n + k) (getD l k d) ≡ true
+  all-at d n test [] k e h = absurd (omega arith)
+  all-at d n test (a ∷ l) zero e h =
+      let z : n ≡ n + 0 = omega arith in
+      subst (λ (m : ℕ). test m a ≡ true) z (and-left (test n a) (allFrom (suc n) test l) e)
+  all-at d n test (a ∷ l) (suc k) e h =
+      let z : suc n + k ≡ n + suc k = omega arith in
+      subst (λ (m : ℕ). test m (getD l k d) ≡ true) z (all-at d (suc n) test l k (and-right (test n a) (allFrom (suc n) test l) e) (omega arith))
+
+  -- and back, from every place
+  pub all-made : (d : A) (n : ℕ) (test : ℕ → A → Bool) (l : List A) → ((k : ℕ) → k < length l → test (n + k) (getD l k d) ≡ true) → allFrom n test l ≡ true
+  all-made d n test [] f = refl
+  all-made d n test (a ∷ l) f =
+      let z : n + 0 ≡ n = omega arith in
+      and-both (test n a) (allFrom (suc n) test l)
+      (subst (λ (m : ℕ). test m a ≡ true) z (f 0 (omega arith)))
+      (all-made d (suc n) test l (λ k h. let w : n + suc k ≡ suc n + k = omega arith in subst (λ (m : ℕ). test m (getD l k d) ≡ true) w (f (suc k) (omega arith))))
+
+  -- after storing: the new one by itself, each other from the old test
+  pub all-set : (d : A) (n : ℕ) (test after : ℕ → A → Bool) (l : List A) (k : ℕ) (a : A) → allFrom n test l ≡ true
+      → ((j : ℕ) → j < length l → j ≢ k → test (n + j) (getD l j d) ≡ true → after (n + j) (getD l j d) ≡ true)
+      → after (n + k) a ≡ true → allFrom n after (set l k a) ≡ true
+  all-set d n test after l k a e f q =
+      all-made d n after (set l k a) (λ j h.
+      let s : j < length l = subst (λ (m : ℕ). j < m) (length-set l k a) h in
+      either j k
+      (λ w. subst (λ (m : ℕ). after (n + m) (getD (set l k a) m d) ≡ true) (sym w)
+      (ap (λ (x : A). after (n + k) x) (getD-set-same l k a d (subst (λ (m : ℕ). m < length l) w s)) ∙ q))
+      (λ w. ap (λ (x : A). after (n + j) x) (getD-set-other l k j a d w) ∙ f j s w (all-at d n test l j e s)))
+
+  -- a test without places, of one
+  pub each-at : (d : A) (test : A → Bool) (l : List A) (k : ℕ) → all test l ≡ true → k < length l → test (getD l k d) ≡ true
+  each-at d test [] k e h = absurd (omega arith)
+  each-at d test (a ∷ l) zero e h = and-left (test a) (all test l) e
+  each-at d test (a ∷ l) (suc k) e h = each-at d test l k (and-right (test a) (all test l) e) (omega arith)
+
+  -- and back, from every one
+  pub each-made : (d : A) (test : A → Bool) (l : List A) → ((k : ℕ) → k < length l → test (getD l k d) ≡ true) → all test l ≡ true
+  each-made d test [] f = refl
+  each-made d test (a ∷ l) f = and-both (test a) (all test l) (f 0 (omega arith)) (each-made d test l (λ k h. f (suc k) (omega arith)))
+
+  -- after storing, likewise
+  pub each-set : (d : A) (test after : A → Bool) (l : List A) (k : ℕ) (a : A) → all test l ≡ true
+      → ((j : ℕ) → j < length l → j ≢ k → test (getD l j d) ≡ true → after (getD l j d) ≡ true)
+      → after a ≡ true → all after (set l k a) ≡ true
+  each-set d test after l k a e f q =
+      each-made d after (set l k a) (λ j h.
+      let s : j < length l = subst (λ (m : ℕ). j < m) (length-set l k a) h in
+      either j k
+      (λ w. subst (λ (m : ℕ). after (getD (set l k a) m d) ≡ true) (sym w)
+      (ap after (getD-set-same l k a d (subst (λ (m : ℕ). m < length l) w s)) ∙ q))
+      (λ w. ap after (getD-set-other l k j a d w) ∙ f j s w (each-at d test l j e s)))
+
+-- ---- 6. the lowest free id
+
+-- the first one tried is free
+pub lowest-here : (n k : ℕ) (rs : List Row) → indexOf k rs ≡ length rs → lowestFree (suc n) k rs ≡ k
+unfolding lowestFree
+lowest-here n k rs e = ap (λ (t : Bool). pick t k (lowestFree n (suc k) rs)) (eq-eqb (indexOf k rs) (length rs) e)
+
+-- the first one tried is in a row
+pub lowest-later : (n k : ℕ) (rs : List Row) → indexOf k rs ≢ length rs → lowestFree (suc n) k rs ≡ lowestFree n (suc k) rs
+unfolding lowestFree
+lowest-later n k rs h = ap (λ (t : Bool). pick t k (lowestFree n (suc k) rs)) (ne-eqb (indexOf k rs) (length rs) h)
+
+-- none is left to try
+pub lowest-none : (k : ℕ) (rs : List Row) → lowestFree 0 k rs ≡ 0
+unfolding lowestFree
+lowest-none k rs = refl
+
+-- 1 for an id in a row; how many of so many ids from k on are
+abbrev inRow : ℕ → List Row → ℕ
+inRow k rs = pick (eqb (indexOf k rs) (length rs)) 0 1
+
+unfoldable taken : ℕ → ℕ → List Row → ℕ
+taken zero k rs = 0
+taken (suc n) k rs = inRow k rs + taken n (suc k) rs
+
+in-no-row : (k : ℕ) (rs : List Row) → indexOf k rs ≡ length rs → inRow k rs ≡ 0
+in-no-row k rs e = ap (λ (t : Bool). pick {A = ℕ} t 0 1) (eq-eqb (indexOf k rs) (length rs) e)
+
+in-a-row : (k : ℕ) (rs : List Row) → indexOf k rs ≢ length rs → inRow k rs ≡ 1
+in-a-row k rs h = ap (λ (t : Bool). pick {A = ℕ} t 0 1) (ne-eqb (indexOf k rs) (length rs) h)
+
+in-one : (k : ℕ) (rs : List Row) → inRow k rs ≤ 1
+in-one k rs = either (indexOf k rs) (length rs) (λ e. omega (arith, in-no-row k rs e)) (λ n. omega (arith, in-a-row k rs n))
+
+-- a row with another id is none for this one
+in-rest : (k : ℕ) (r : Row) (rs : List Row) → r .id .0 ≢ k → inRow k (r ∷ rs) ≡ inRow k rs
+in-rest k r rs n =
+    either (indexOf k rs) (length rs)
+    (λ e. in-no-row k (r ∷ rs) (missing-cons k r rs n e) ∙ sym (in-no-row k rs e))
+    (λ h. in-a-row k (r ∷ rs) (λ e. h (missing-tail k r rs e)) ∙ sym (in-a-row k rs h))
+
+-- so each row takes one id at most
+taken-past : (n k : ℕ) (r : Row) (rs : List Row) → r .id .0 < k → taken n k (r ∷ rs) ≤ taken n k rs
+unfolding taken
+taken-past zero k r rs h = omega arith
+taken-past (suc n) k r rs h = omega (arith, in-rest k r rs (λ e. omega arith), taken-past n (suc k) r rs (omega arith))
+
+taken-row : (n k : ℕ) (r : Row) (rs : List Row) → taken n k (r ∷ rs) ≤ suc (taken n k rs)
+unfolding taken
+taken-row zero k r rs = omega arith
+taken-row (suc n) k r rs =
+    either (r .id .0) k
+    (λ e. omega (arith, in-one k (r ∷ rs), taken-past n (suc k) r rs (omega arith)))
+    (λ h. omega (arith, in-rest k r rs h, taken-row n (suc k) r rs))
+
+taken-empty : (n k : ℕ) → taken n k [] ≡ 0
+unfolding taken
+taken-empty zero k = refl
+taken-empty (suc n) k = omega (arith, in-no-row k [] (index-none k), taken-empty n (suc k))
+
+taken-most : (n k : ℕ) (rs : List Row) → taken n k rs ≤ length rs
+taken-most n k [] = omega (arith, taken-empty n k)
+taken-most n k (r ∷ rs) = omega (arith, taken-row n k r rs, taken-most n k rs)
+
+-- where none is found, each is in a row
+taken-all : (n k : ℕ) (rs : List Row) → 0 < k → lowestFree n k rs ≡ 0 → taken n k rs ≡ n
+unfolding taken
+taken-all zero k rs h e = refl
+taken-all (suc n) k rs h e =
+    either (indexOf k rs) (length rs)
+    (λ q. absurd (omega (arith, lowest-here n k rs q)))
+    (λ q. omega (arith, in-a-row k rs q, taken-all n (suc k) rs (omega arith) (sym (lowest-later n k rs q) ∙ e)))
+
+-- with more ids than rows, one is found
+pub lowest-some : (n k : ℕ) (rs : List Row) → 0 < k → length rs < n → 0 < lowestFree n k rs
+lowest-some n k rs h s =
+    either (lowestFree n k rs) 0
+    (λ e. absurd (omega (arith, taken-all n k rs h e, taken-most n k rs)))
+    (λ q. omega arith)
+
+-- what is found: it is among those tried, no row has it, and each before it is in a row
+pub record Lowest (n k : ℕ) (rs : List Row) (i : ℕ) : Type 0 where
+  pub from : k ≤ i
+  pub to : i < k + n
+  pub unused : indexOf i rs ≡ length rs
+  pub used : (j : ℕ) → k ≤ j → j < i → indexOf j rs < length rs
+
+-- what is found is the lowest
+pub lowest-is : (n k : ℕ) (rs : List Row) → 0 < lowestFree n k rs → Lowest n k rs (lowestFree n k rs)
+lowest-is zero k rs h = absurd (omega (arith, lowest-none k rs))
+lowest-is (suc n) k rs h =
+    either (indexOf k rs) (length rs)
+    (λ e. subst (Lowest (suc n) k rs) (sym (lowest-here n k rs e))
+    (record { from = omega arith; to = omega arith; unused = e; used = λ j p q. absurd (omega arith) }))
+    (λ d. let w = lowest-is n (suc k) rs (omega (arith, lowest-later n k rs d)) in
+    subst (Lowest (suc n) k rs) (sym (lowest-later n k rs d))
+    (record {
+      from = omega (arith, w .from);
+      to = omega (arith, w .to);
+      unused = w .unused;
+      used = λ j p q. either j k
+          (λ e. subst (λ (x : ℕ). indexOf x rs < length rs) (sym e) (omega (arith, index-below k rs)))
+          (λ f. w .used j (omega arith) q);
+    }))
+
+-- eight rows always leave one
+pub lowest-of-eight : (rs : List Row) → length rs ≡ 8 → Lowest 255 1 rs (lowestFree 255 1 rs)
+lowest-of-eight rs e = lowest-is 255 1 rs (lowest-some 255 1 rs (omega arith) (omega arith))
+
+-- from 1 to 255
+pub lowest-between : (rs : List Row) → length rs ≡ 8 → (1 ≤ lowestFree 255 1 rs) × (lowestFree 255 1 rs ≤ 255)
+lowest-between rs e = let w = lowest-of-eight rs e in (w .from, omega (arith, w .to))
+
+-- a book of the same ids has the same lowest
+pub lowest-book : (b : Book) (rs : List Row) → ((i : ℕ) → 1 ≤ i → there (b i) ≡ ltb (indexOf i rs) (length rs))
+    → (n k : ℕ) → 1 ≤ k → lowestIn b n k ≡ lowestFree n k rs
+unfolding lowestIn
+lowest-book b rs f zero k h = sym (lowest-none k rs)
+lowest-book b rs f (suc n) k h =
+    either (indexOf k rs) (length rs)
+    (λ e. ap (λ (t : Bool). pick t (lowestIn b n (suc k)) k) (f k h ∙ le-ltb (indexOf k rs) (length rs) (omega arith)) ∙ sym (lowest-here n k rs e))
+    (λ d. ap (λ (t : Bool). pick t (lowestIn b n (suc k)) k) (f k h ∙ lt-ltb (indexOf k rs) (length rs) (omega (arith, index-below k rs)))
+    ∙ lowest-book b rs f n (suc k) (omega arith) ∙ sym (lowest-later n k rs d))
+
+-- ---- 7. five places, and the rows that are made
+
+-- five places in each row
+pub five-at : (rs : List Row) (k : ℕ) → FiveEach rs → k < length rs → length (getD rs k noRow .messages) ≡ 5
+five-at [] k f h = absurd (omega arith)
+five-at (r ∷ rs) zero f h = f .0
+five-at (r ∷ rs) (suc k) f h = five-at rs k (f .1) (omega arith)
+
+-- and so after storing a row of five
+pub five-set : (rs : List Row) (k : ℕ) (r : Row) → FiveEach rs → length (r .messages) ≡ 5 → FiveEach (set rs k r)
+five-set [] k r f e = tt
+five-set (q ∷ rs) zero r f e = (e, f .1)
+five-set (q ∷ rs) (suc k) r f e = (f .0, five-set rs k r (f .1) e)
+
+-- a free row holds nothing
+pub free-held : heldOf freeRow ≡ 0
+unfolding heldIn heldBy
+free-held = refl
+
+-- its share is 0
+pub free-share : shareOf freeRow ≡ 0
+free-share = omega (arith, free-held)
+
+-- it has five places
+pub free-five : length (freeRow .messages) ≡ 5
+free-five = refl
+
+-- a new row holds nothing
+pub opened-held : (i : SessionId) (g c v h : ℕ) → heldOf (openedRow i g c v h) ≡ 0
+unfolding heldIn heldBy
+opened-held i g c v h = refl
+
+-- its share is its guarantee
+pub opened-share : (i : SessionId) (g c v h : ℕ) → shareOf (openedRow i g c v h) ≡ g
+opened-share i g c v h = omega (arith, opened-held i g c v h)
+
+-- it has five places
+pub opened-five : (i : SessionId) (g c v h : ℕ) → length (openedRow i g c v h .messages) ≡ 5
+opened-five i g c v h = refl

@@ -1,0 +1,146 @@
+//! The room that open messages share (document 01, "Messages"): a pool of
+//! 65,536 bytes in 256 blocks.
+//!
+//! A message keeps the numbers of its blocks, the room keeps the numbers of
+//! the free ones. There is no map from blocks to owners here: another program
+//! that has one is compared with these lists.
+
+use std::collections::{BTreeMap, BTreeSet};
+
+/// The bytes of a block.
+pub const BLOCK_SIZE: usize = 256;
+
+/// The blocks of the pool.
+pub const BLOCK_COUNT: usize = 256;
+
+/// The bytes of the pool.
+pub const POOL_SIZE: usize = BLOCK_SIZE * BLOCK_COUNT;
+
+/// Which block of the pool.
+#[derive(Clone, Copy, Debug, PartialEq, Eq, PartialOrd, Ord)]
+pub struct BlockNumber(pub u8);
+
+/// Whose message. 0 is a name like any other here.
+#[derive(Clone, Copy, Debug, PartialEq, Eq, PartialOrd, Ord)]
+pub struct Owner(pub u8);
+
+/// The blocks that a message of `total` bytes needs: "(total + 255) / 256".
+pub fn needed(total: usize) -> usize {
+    total.div_ceil(BLOCK_SIZE)
+}
+
+/// A message that is being put together.
+#[derive(Default)]
+struct Message {
+    /// In rising order.
+    blocks: Vec<BlockNumber>,
+    /// The bytes already there.
+    length: usize,
+}
+
+impl Message {
+    /// Where in the pool the message's byte of this index is, if a block holds it.
+    fn place(&self, index: usize) -> Option<usize> {
+        let block = self.blocks.get(index / BLOCK_SIZE)?;
+        Some(block.0 as usize * BLOCK_SIZE + index % BLOCK_SIZE)
+    }
+}
+
+/// The pool, the messages in it, and what is free.
+pub struct Room {
+    pool: Vec<u8>,
+    free: BTreeSet<BlockNumber>,
+    messages: BTreeMap<Owner, Message>,
+}
+
+impl Room {
+    /// A room with every block free. The pool may hold any bytes: taking
+    /// blocks "writes nothing", so what was there stays until it is appended over.
+    pub fn over(pool: Vec<u8>) -> Self {
+        assert_eq!(pool.len(), POOL_SIZE, "a pool has one size");
+        Room {
+            pool,
+            free: (0..=u8::MAX).map(BlockNumber).collect(),
+            messages: BTreeMap::new(),
+        }
+    }
+
+    /// The owner "takes the lowest free blocks in rising order and writes
+    /// nothing". If fewer than `count` are free, it takes these.
+    ///
+    /// No message takes blocks twice in document 01. If one does, its blocks
+    /// are ordered anew, as their numbers alone tell the order.
+    pub fn claim(&mut self, owner: Owner, count: usize) {
+        let blocks = &mut self.messages.entry(owner).or_default().blocks;
+        for _ in 0..count {
+            let Some(lowest) = self.free.pop_first() else {
+                break;
+            };
+            blocks.push(lowest);
+        }
+        blocks.sort();
+    }
+
+    /// The payload goes "right behind the bytes already there; no other pool
+    /// byte changes". Answers how many bytes there were blocks for.
+    pub fn append(&mut self, owner: Owner, payload: &[u8]) -> usize {
+        let Some(message) = self.messages.get_mut(&owner) else {
+            return 0;
+        };
+        let before = message.length;
+        for &byte in payload {
+            let Some(place) = message.place(message.length) else {
+                break;
+            };
+            self.pool[place] = byte;
+            message.length += 1;
+        }
+        message.length - before
+    }
+
+    /// Writes the first `due` bytes of the owner's blocks "to the front of
+    /// out, following its blocks one after another", as far as there are
+    /// blocks and room in `out`. "Bytes of out past those written stay."
+    pub fn deliver(&self, owner: Owner, due: usize, out: &mut [u8]) {
+        let Some(message) = self.messages.get(&owner) else {
+            return;
+        };
+        for (index, byte) in out.iter_mut().take(due).enumerate() {
+            let Some(place) = message.place(index) else {
+                break;
+            };
+            *byte = self.pool[place];
+        }
+    }
+
+    /// All blocks of the owner are free again; their bytes stay.
+    pub fn free(&mut self, owner: Owner) {
+        if let Some(message) = self.messages.remove(&owner) {
+            self.free.extend(message.blocks);
+        }
+    }
+
+    /// The owner's blocks, in rising order.
+    pub fn blocks(&self, owner: Owner) -> &[BlockNumber] {
+        match self.messages.get(&owner) {
+            Some(message) => &message.blocks,
+            None => &[],
+        }
+    }
+
+    /// The bytes that the owner's message has so far.
+    pub fn length(&self, owner: Owner) -> usize {
+        self.messages
+            .get(&owner)
+            .map_or(0, |message| message.length)
+    }
+
+    /// The free blocks, in rising order.
+    pub fn free_blocks(&self) -> impl ExactSizeIterator<Item = BlockNumber> + '_ {
+        self.free.iter().copied()
+    }
+
+    pub fn pool(&self) -> &[u8] {
+        &self.pool
+    }
+}
