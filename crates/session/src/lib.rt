@@ -409,8 +409,7 @@ fn message_of(row: Row, header: Header) -> Reassembly
 }
 
 // A First Frame: 18 to 21. `others` is the room that the other sessions take.
-fn first(row: Row, others: usize, header: Header, total: u32, count: u32) -> Act
-    requires { ⌜ others < 2 ^ 32 ⌝ }
+fn first(row: Row, others: u32, header: Header, total: u32, count: u32) -> Act
     ensures { λ r. ⌜ r ≡ firstOf row others header total count ⌝ }
 {
     if !frame::totals_fit(total as usize, count as usize) {
@@ -424,7 +423,7 @@ fn first(row: Row, others: usize, header: Header, total: u32, count: u32) -> Act
     if (row.cap as usize) < after {
         return Act::Refuse(refusal::ABOVE_CAP);
     }
-    if 256 < others + most(after, row.guarantee as usize) {
+    if 256 < others as usize + most(after, row.guarantee as usize) {
         return Act::Refuse(refusal::NO_ROOM);
     }
     Act::Claim(total, count)
@@ -489,8 +488,7 @@ fn single(room: usize, header: Header) -> Act
 }
 
 // A Single, First or consecutive frame. total and count are a First Frame's.
-pub fn content(row: Row, others: usize, room: usize, header: Header, total: u32, count: u32) -> Act
-    requires { ⌜ others < 2 ^ 32 ⌝ }
+pub fn content(row: Row, others: u32, room: usize, header: Header, total: u32, count: u32) -> Act
     ensures { λ r. ⌜ r ≡ contentOf row others room header total count ⌝ }
 {
     if header.kind == 1 {
