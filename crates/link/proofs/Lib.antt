@@ -1,6 +1,7 @@
 pub mod Lists
 pub mod Shown
 pub mod Table
+pub mod RowRules
 pub mod Holdings
 pub mod Created
 pub mod Refusals
