@@ -2,6 +2,9 @@ pub mod Lists
 pub mod Shown
 pub mod Table
 pub mod RowRules
+pub mod TableRules
+pub mod OpeningRules
+pub mod AllSane
 pub mod Holdings
 pub mod Created
 pub mod Refusals
