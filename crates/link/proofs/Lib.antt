@@ -5,6 +5,7 @@ pub mod RowRules
 pub mod TableRules
 pub mod OpeningRules
 pub mod AllSane
+pub mod Opens
 pub mod Holdings
 pub mod Created
 pub mod Refusals
