@@ -6,6 +6,7 @@ pub mod TableRules
 pub mod OpeningRules
 pub mod AllSane
 pub mod Opens
+pub mod Others
 pub mod Holdings
 pub mod Created
 pub mod Refusals

@@ -73,8 +73,8 @@ opened-rules l g v eight five e f w a =
     let l₅ : length (getD rs k noRow .messages) ≡ 5 = five-at rs k five b in
     let some : i .0 ≡ 0 → ⊥ = λ y. (let t = lowest-between rs eight in omega arith) in
     let new : rowFits major (l .owners) k r ≡ true =
-      new-fits major (l .owners) k i (g .guarantee) (g .cap) v (g .hash) some (leb-true (g .guarantee) (g .cap) (q .0)) (leb-true (g .cap) 256 (q .1)) a
-      (λ j h. free-blocks major (l .owners) k (getD rs k noRow) (index-row 0 rs b) old j (omega arith)) in
+    new-fits major (l .owners) k i (g .guarantee) (g .cap) v (g .hash) some (leb-true (g .guarantee) (g .cap) (q .0)) (leb-true (g .cap) 256 (q .1)) a
+    (λ j h. free-blocks major (l .owners) k (getD rs k noRow) (index-row 0 rs b) old j (omega arith)) in
     let none : heldOf r ≡ 0 = opened-held i (g .guarantee) (g .cap) v (g .hash) in
     let sum : sharesIn (set rs k r) + shareOf (getD rs k noRow) ≡ sharesIn rs + shareOf r = shares-set rs k r b in
     let within : sharesIn (set rs k r) ≤ 256 = omega arith in

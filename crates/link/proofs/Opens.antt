@@ -77,7 +77,7 @@ module _ (s : State) (q : Request) (k : Sane s) where
   unfolding frameOf
   frame-enters h e o =
       unless-elim (Enters s) (leb 128 (length (q .out))) _ _ (λ t z. absurd z) (λ t.
-        rw o (opening-enters (e .consumed) (wishOf (s .link .version .major) (part (q .input) (e .start) (e .end - e .start)))))
+      rw o (opening-enters (e .consumed) (wishOf (s .link .version .major) (part (q .input) (e .start) (e .end - e .start)))))
 
   is-opening : (b : Bool) (i : ℕ) (a : Ask) → pick b opening (within i a) ≡ opening → b ≡ true
   is-opening true i a e = refl

@@ -95,18 +95,18 @@ distinct-set (b ∷ rs) zero a s e =
     let p = both (eqb (b .id .0) 0 || eqb (indexOf (b .id .0) rs) (length rs)) (distinctIds rs) e in
     and-yes (eqb (a .id .0) 0 || eqb (indexOf (a .id .0) rs) (length rs)) (distinctIds rs)
     (elim-or (eqb (a .id .0) 0) (eqb (indexOf (a .id .0) rs) (length rs)) (λ t.
-      let n : a .id .0 ≡ 0 → ⊥ = eqb-false (a .id .0) 0 t in
-      let q : a .id .0 ≡ b .id .0 = s n in
-      subst (λ (x : ℕ). eqb (indexOf x rs) (length rs) ≡ true) (sym q)
-      (or-elim (eqb (b .id .0) 0) (eqb (indexOf (b .id .0) rs) (length rs)) (p .0) (ne-eqb (b .id .0) 0 (λ z. n (q ∙ z))))))
+    let n : a .id .0 ≡ 0 → ⊥ = eqb-false (a .id .0) 0 t in
+    let q : a .id .0 ≡ b .id .0 = s n in
+    subst (λ (x : ℕ). eqb (indexOf x rs) (length rs) ≡ true) (sym q)
+    (or-elim (eqb (b .id .0) 0) (eqb (indexOf (b .id .0) rs) (length rs)) (p .0) (ne-eqb (b .id .0) 0 (λ z. n (q ∙ z))))))
     (p .1)
 distinct-set (b ∷ rs) (suc i) a s e =
     let p = both (eqb (b .id .0) 0 || eqb (indexOf (b .id .0) rs) (length rs)) (distinctIds rs) e in
     let l : length (set rs i a) ≡ length rs = length-set rs i a in
     and-yes (eqb (b .id .0) 0 || eqb (indexOf (b .id .0) (set rs i a)) (length (set rs i a))) (distinctIds (set rs i a))
     (elim-or (eqb (b .id .0) 0) (eqb (indexOf (b .id .0) (set rs i a)) (length (set rs i a))) (λ t.
-      let old : indexOf (b .id .0) rs ≡ length rs = eqb-true (indexOf (b .id .0) rs) (length rs) (or-elim (eqb (b .id .0) 0) (eqb (indexOf (b .id .0) rs) (length rs)) (p .0) t) in
-      eq-eqb (indexOf (b .id .0) (set rs i a)) (length (set rs i a)) (absent-set (b .id .0) rs i a (eqb-false (b .id .0) 0 t) s old ∙ sym l)))
+    let old : indexOf (b .id .0) rs ≡ length rs = eqb-true (indexOf (b .id .0) rs) (length rs) (or-elim (eqb (b .id .0) 0) (eqb (indexOf (b .id .0) rs) (length rs)) (p .0) t) in
+    eq-eqb (indexOf (b .id .0) (set rs i a)) (length (set rs i a)) (absent-set (b .id .0) rs i a (eqb-false (b .id .0) 0 t) s old ∙ sym l)))
     (distinct-set rs i a s (p .1))
 
 -- every row's rule, where the map changed only for the row that was set
@@ -118,7 +118,7 @@ rows-set major owners owners′ rs i a h q f e =
     from-make 0 (rowFits major owners′) (set rs i a) noRow (λ k j.
     let z : 0 + k ≡ k = omega arith in
     rw z (set-each (λ (k : ℕ) (r : Row). rowFits major owners′ k r ≡ true) rs i a noRow h q
-      (λ k j n. let y : 0 + k ≡ k = omega arith in f k j n (rw y at (from-at 0 (rowFits major owners) rs k noRow e j))) k (omega arith)))
+    (λ k j n. let y : 0 + k ≡ k = omega arith in f k j n (rw y at (from-at 0 (rowFits major owners) rs k noRow e j))) k (omega arith)))
 
 -- ---- the blocks of all rows
 
@@ -163,7 +163,7 @@ row-owned owners i n (m ∷ ms) f =
     let z : n + 0 ≡ n = omega arith in
     let head : heldBy (ownerOf i n) owners ≡ heldFor m = rw z at (f 0 (omega arith)) in
     let more : heldByAll (ownerOf i (suc n)) (length ms) owners ≡ heldIn ms =
-      row-owned owners i (suc n) ms (λ k h. let y : n + suc k ≡ suc n + k = omega arith in rw y at (f (suc k) (omega arith))) in
+    row-owned owners i (suc n) ms (λ k h. let y : n + suc k ≡ suc n + k = omega arith in rw y at (f (suc k) (omega arith))) in
     let q : heldByAll (suc (ownerOf i n)) (length ms) owners ≡ heldIn ms = rw (owner-next i n) at more in
     omega arith
 
@@ -251,7 +251,7 @@ module _ (major others i place : ℕ) (r after : Row) (owners : List ℕ) (below
       let gain : freeIn (released o o owners) ≡ freeIn owners + heldBy o owners = release-one o owners some in
       let e = k .held in
       let apart : (j q : ℕ) → q < 5 → ((j ≡ i) × (q ≡ place) → ⊥) → heldBy (ownerOf j q) (released o o owners) ≡ heldBy (ownerOf j q) owners =
-        λ j q h n. let d : ownerOf j q ≡ o → ⊥ = owner-apart i j place q below h n in release-leaves o o (ownerOf j q) owners (owner-some j q) (λ a b. d (omega arith)) in
+      λ j q h n. let d : ownerOf j q ≡ o → ⊥ = owner-apart i j place q below h n in release-leaves o o (ownerOf j q) owners (owner-some j q) (λ a b. d (omega arith)) in
       record {
         size = release-length o o owners;
         mine = blocks-kept major others place r after freed 0 owners (released o o owners) i five below k fit (λ q h n. apart i q h (λ z. n (z .1))) (omega arith);
@@ -269,7 +269,7 @@ module _ (major others i place : ℕ) (r after : Row) (owners : List ℕ) (below
       let loss : freeIn (claimed o need owners) ≡ freeIn owners - need = claim-lowers o need owners some in
       let e = k .held in
       let apart : (j q : ℕ) → q < 5 → ((j ≡ i) × (q ≡ place) → ⊥) → heldBy (ownerOf j q) (claimed o need owners) ≡ heldBy (ownerOf j q) owners =
-        λ j q h n. claim-leaves (ownerOf j q) o need owners (owner-apart i j place q below h n) (owner-some j q) in
+      λ j q h n. claim-leaves (ownerOf j q) o need owners (owner-apart i j place q below h n) (owner-some j q) in
       record {
         size = claim-length o need owners;
         mine = blocks-kept major others place r after 0 need owners (claimed o need owners) i five below k fit (λ q h n. apart i q h (λ z. n (z .1))) (omega arith);
@@ -306,7 +306,7 @@ moved-close major i r owners five fit =
     record {
       size = release-length low high owners;
       mine = say-blocks (released low high owners) i freeRow (λ q h.
-        release-takes low high (ownerOf i q) owners (owner-some i q) (inside i q h .0) (inside i q h .1) ∙ sym (free-idle q h));
+          release-takes low high (ownerOf i q) owners (owner-some i q) (inside i q h .0) (inside i q h .1) ∙ sym (free-idle q h));
       others = λ k n q h. release-leaves low high (ownerOf k q) owners (owner-some k q) (between i k q h n);
       spare = omega arith;
     }
@@ -355,8 +355,8 @@ rules-after l i h hash act owners′ eight five b n e o m =
     let p₃ = both (leb (sharesIn rs) 256) (eqb (heldByAll 1 40 (l .owners) + freeIn (l .owners)) 256) (p₂ .1) in
     let total : heldByAll 1 40 (l .owners) + freeIn (l .owners) ≡ 256 = eqb-true (heldByAll 1 40 (l .owners) + freeIn (l .owners)) 256 (p₃ .1) in
     let rows′ : allFrom 0 (rowFits major owners′) (set rs i a) ≡ true =
-      rows-set major (l .owners) owners′ rs i a b (after-row-fits major others r h hash act owners′ i n o (m .mine))
-      (λ k j d f. row-elsewhere major (l .owners) owners′ k (getD rs k noRow) (five-at rs k five j) (m .others k d) f) (p₂ .0) in
+    rows-set major (l .owners) owners′ rs i a b (after-row-fits major others r h hash act owners′ i n o (m .mine))
+    (λ k j d f. row-elsewhere major (l .owners) owners′ k (getD rs k noRow) (five-at rs k five j) (m .others k d) f) (p₂ .0) in
     let five′ : FiveEach (set rs i a) = five-set rs i a five (after-five major others r h hash act o) in
     let len : length (set rs i a) ≡ length rs = length-set rs i a in
     let was : heldByAll 1 40 (l .owners) ≡ heldsIn rs = forty major (l .owners) rs eight five (p₂ .0) in
@@ -449,7 +449,7 @@ module _ (l : Link) (i : ℕ) (p out : List ℕ) (h : Header) (consumed : ℕ) (
   applied-rules (Claim total count) o =
       moves (Claim total count) _ o
       (moved-claim (l .version .major) (sharesIn (l .rows) - shareOf (getD (l .rows) i noRow)) i (placeOf (h .service .0)) (getD (l .rows) i noRow) _ (l .owners)
-        (place-below (h .service .0)) (five-at (l .rows) i five b) row-blocks (needOf total) (need-free (needOf total) _ (o .stays refl)) (o .stays refl))
+      (place-below (h .service .0)) (five-at (l .rows) i five b) row-blocks (needOf total) (need-free (needOf total) _ (o .stays refl)) (o .stays refl))
   applied-rules Append o = moves Append (l .owners) o (moved-same _ (o .stays refl))
   applied-rules Deliver o = moves Deliver _ o (moved-drop _ (o .stays refl))
   applied-rules Single o = moves Single (l .owners) o (moved-same _ (o .stays refl))
@@ -461,7 +461,7 @@ module _ (l : Link) (i : ℕ) (p out : List ℕ) (h : Header) (consumed : ℕ) (
       let r : Row = getD (l .rows) i noRow in
       let major : ℕ = l .version .major in
       let q : pick (eqb (r .id .0) 0) (freeFits r) (roomFits r && (versionAllowed major (r .version) && (unsettledFits r && allFrom 0 (messageFits r) (r .messages)))) ≡ true
-        = both (blocksFit (l .owners) i r) _ row-rule .1 in
+      = both (blocksFit (l .owners) i r) _ row-rule .1 in
       let q₀ : roomFits r && (versionAllowed major (r .version) && (unsettledFits r && allFrom 0 (messageFits r) (r .messages))) ≡ true = rw (ne-eqb (r .id .0) 0 n) at q in
       let q₁ = both (roomFits r) _ q₀ in
       let q₂ = both (versionAllowed major (r .version)) _ (q₁ .1) in
@@ -483,14 +483,14 @@ module _ (l : Link) (i : ℕ) (p out : List ℕ) (h : Header) (consumed : ℕ) (
   arrays-moved : (act : Act) (owners′ pool′ : List ℕ) → Here act → length owners′ ≡ length (l .owners) → length pool′ ≡ length p
       → Keeps (withOwners (withRow l i (rowAfter (getD (l .rows) i noRow) h (g .hash) act)) owners′) pool′
   arrays-moved act owners′ pool′ o a c = record {
-        rows = length-set (l .rows) i (rowAfter (getD (l .rows) i noRow) h (g .hash) act);
-        five = five-set (l .rows) i (rowAfter (getD (l .rows) i noRow) h (g .hash) act) five
-          (after-five (l .version .major) (sharesIn (l .rows) - shareOf (getD (l .rows) i noRow)) (getD (l .rows) i noRow) h (g .hash) act o);
-        owners = a;
-        pool = c;
-        version = refl;
-        mtu = refl;
-      }
+    rows = length-set (l .rows) i (rowAfter (getD (l .rows) i noRow) h (g .hash) act);
+    five = five-set (l .rows) i (rowAfter (getD (l .rows) i noRow) h (g .hash) act) five
+        (after-five (l .version .major) (sharesIn (l .rows) - shareOf (getD (l .rows) i noRow)) (getD (l .rows) i noRow) h (g .hash) act o);
+    owners = a;
+    pool = c;
+    version = refl;
+    mtu = refl;
+  }
 
   pub applied-arrays : (act : Act) → Here act → Keeps (applied l i p out h consumed payload g act .link) (applied l i p out h consumed payload g act .pool)
   applied-arrays (Refuse m) o = arrays-same
