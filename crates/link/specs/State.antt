@@ -77,7 +77,7 @@ unfoldable pub blocksFit : List ℕ → ℕ → Row → Bool
 blocksFit owners i r =
     allFrom 0 (λ (place : ℕ) (m : Reassembly). eqb (heldBy (ownerOf i place) owners) (pick (m .live) (needOf (m .total)) 0)) (r .messages)
 
--- a free row is the one that creation made (ours)
+-- a free row has guarantee 0, cap 0 and no open message, as creation made it (ours)
 unfoldable pub freeFits : Row → Bool
 freeFits r = eqb (r .guarantee) 0 && (eqb (r .cap) 0 && all (λ (m : Reassembly). not (m .live)) (r .messages))
 
