@@ -1,9 +1,8 @@
 -- A new link keeps the state rules, and its book is empty: by computation, its rows being free and its map too.
 -- Assumes nothing.
-use Prim.Native.Nat.{ℕ, zero, suc, _+_, _<_}
-use mathlib.Core.Path.{_≡_, refl, _∙_, fun-ext}
-use mathlib.Core.Bool.{Bool, true, false}
-use mathlib.Core.Option.{Option, none, some}
+use Prim.Native.Nat.{ℕ, zero, suc}
+use mathlib.Core.Path.{_≡_, refl, fun-ext}
+use mathlib.Core.Bool.{true, false}
 use mathlib.Core.List.{List}
 use native.Mathlib.Omega.{arith}
 use lib.ListN.{length}
@@ -11,9 +10,9 @@ use borrow.Author.Tests.{ne-eqb}
 use Rattle.blocks.specs.Map.{freeMap, heldBy, heldByAll}
 use Rattle.session.specs.Decide.{needOf, heldIn, heldBy as messageHeld}
 use Rattle.payload.specs.declared.version.Version.{Version}
-use Rattle.link.specs.State.{indexOf, ownerOf, sharesIn, distinctIds, roomFits, versionAllowed, serviceAt, messageFits, unsettledFits, blocksFit, freeFits, rowFits, rulesHold, settingsFit, createdLink}
-use Rattle.link.specs.Book.{Book, emptyBook}
-use Rattle.link.specs.Claim.{State, isOpen, created}
+use Rattle.link.specs.State.{indexOf, ownerOf, sharesIn, distinctIds, blocksFit, freeFits, rowFits, rulesHold, settingsFit, createdLink}
+use Rattle.link.specs.Book.{emptyBook}
+use Rattle.link.specs.Claim.{isOpen, created}
 use Rattle.link.specs.Pages.{rowOf, pages, Sane}
 
 created-rules : (v : Version) (mtu : ℕ) → rulesHold (createdLink v mtu) ≡ true

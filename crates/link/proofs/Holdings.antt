@@ -1,9 +1,9 @@
 -- What a session holds: exactly the blocks that its messages in the book need, and at most its cap. By the state rules at its row.
 -- Assumes nothing.
 use Prim.Native.Nat.{ℕ, zero, suc, _+_, _≤_, _<_}
-use mathlib.Core.Path.{_≡_, refl, ap, _∙_, sym, subst}
+use mathlib.Core.Path.{_≡_, refl, ap, _∙_, sym}
 use mathlib.Core.Bool.{Bool, true, false, _&&_, not}
-use mathlib.Core.Option.{Option, none, some}
+use mathlib.Core.Option.{none, some}
 use mathlib.Core.List.{List, [], _∷_}
 use native.Mathlib.Omega.{arith}
 use lib.Dec.{eqb, ltb, leb}
@@ -15,7 +15,7 @@ use Rattle.session.specs.declared.Reassembly.{Reassembly}
 use Rattle.session.specs.declared.Row.{Row}
 use Rattle.session.specs.Rows.{noRow}
 use Rattle.session.specs.Decide.{needOf, heldIn, heldOf, heldBy as heldFor}
-use Rattle.link.specs.State.{indexOf, ownerOf, allFrom, roomFits, versionAllowed, unsettledFits, messageFits, blocksFit, freeFits, rowFits}
+use Rattle.link.specs.State.{indexOf, ownerOf, allFrom, roomFits, versionAllowed, unsettledFits, messageFits, blocksFit, rowFits}
 use Rattle.link.specs.Book.{Note, Page, needsIn, needsOf}
 use Rattle.link.specs.Claim.{State, isOpen, blocksOf}
 use Rattle.link.specs.Pages.{rowOf, noteOf, notesFrom, pageOf, pageIf, pages, FiveEach, Sane}

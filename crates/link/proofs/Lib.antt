@@ -7,6 +7,7 @@ pub mod OpeningRules
 pub mod AllSane
 pub mod Opens
 pub mod Others
+pub mod Deliveries
 pub mod Holdings
 pub mod Created
 pub mod Refusals

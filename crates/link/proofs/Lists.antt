@@ -1,16 +1,15 @@
 -- The list part of demand 3: from laws about ONE call to every list of calls, by induction over the list.
 -- Assumes nothing.
 use mathlib.Core.Path.{_≡_, refl, sym, ap, ap₂, subst, _∙_}
-use Prim.Native.Nat.{ℕ, zero, suc, _+_, _≤_, _<_}
+use Prim.Native.Nat.{ℕ, _+_, _≤_}
 use mathlib.Core.Bool.{Bool, true, false, not, _&&_}
-use mathlib.Core.Option.{Option, none, some}
+use mathlib.Core.Option.{some}
 use mathlib.Core.List.{List, [], _∷_, _++_, map, append-assoc}
 use lib.Dec.{T}
 use Rattle.numbers.specs.Bytes.{pick}
 use Rattle.blocks.specs.Map.{heldByAll, freeIn}
 use Rattle.session.specs.declared.Row.{Row}
-use Rattle.link.specs.declared.Answer.{Answer}
-use Rattle.link.specs.Book.{Command, call, Event, Seen, opening, isAccepted, isAck, Page, Book, emptyBook, there, lowestIn, needsOf, bookAfter, bookOf, dueOf, names, closes, shuts, untilClosed, naming, ownOf, ModestIn, Modest}
+use Rattle.link.specs.Book.{Command, call, Event, opening, isAccepted, isAck, Page, Book, emptyBook, there, lowestIn, needsOf, bookAfter, bookOf, dueOf, names, closes, shuts, untilClosed, naming, ownOf, ModestIn, Modest}
 use Rattle.link.specs.Claim.{State, stateAfter, eventOf, run, endOf, commandOf, isOpen, blocksOf, DeliversDue, AllDelivered, opensIt, Demand}
 use Rattle.link.specs.Pages.{rowOf, pages, Sane}
 

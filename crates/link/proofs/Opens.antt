@@ -1,34 +1,33 @@
 -- An opening's ACK enters a row under the lowest id that is not open, which is the lowest not in the book. By cases of the call, of which only
 -- the admitted opening answers so.
 -- Assumes nothing.
-use Prim.Native.Nat.{ℕ, zero, suc, _+_, _-_, _≤_, _<_}
-use mathlib.Core.Path.{_≡_, refl, ap, _∙_, sym, subst}
-use mathlib.Core.Bool.{Bool, true, false, _&&_, not}
-use mathlib.Core.Option.{Option, none, some}
-use mathlib.Core.List.{List, []}
+use Prim.Native.Nat.{ℕ, _+_, _-_, _≤_, _<_}
+use mathlib.Core.Path.{_≡_, refl, _∙_, sym}
+use mathlib.Core.Bool.{Bool, true, false}
+use mathlib.Core.Option.{some}
+use mathlib.Core.List.{List}
 use native.Mathlib.Omega.{arith}
-use lib.Dec.{T, eqb, ltb, leb}
-use lib.ListN.{length, getD, set, length-set}
+use lib.Dec.{T, ltb, leb}
+use lib.ListN.{length, set, length-set}
 use lib.Seq.{getD-set-same}
 use borrow.Author.Tests.{ltb-true, lt-ltb, ne-eqb}
-use Rattle.numbers.specs.Bytes.{pick, unless, part}
+use Rattle.numbers.specs.Bytes.{pick, part}
 use Rattle.frame.specs.declared.Header.{Header}
 use Rattle.frame.specs.declared.Extent.{Extent}
 use Rattle.frame.specs.declared.Reading.{Reading}
 use Rattle.frame.specs.declared.Reading.the-variants as reading
 use Rattle.frame.specs.Read.{readOf}
-use Rattle.frame.proofs.Laws.{either, unless-elim}
+use Rattle.frame.proofs.Laws.{unless-elim}
 use Rattle.session.specs.declared.Row.{Row}
 use Rattle.session.specs.Rows.{noRow, openedRow}
 use Rattle.link.specs.declared.Link.{Link}
-use Rattle.link.specs.declared.Grant.{Grant}
-use Rattle.link.specs.State.{indexOf, sharesIn, guardOf, withRow, lowestFree}
-use Rattle.link.specs.Call.{After, Wish, old, new, bad, wishOf, opens, admits, openingBy, decisionOf, applied, frameOf, readingOf, callOf}
-use Rattle.link.specs.Book.{Request, Command, call, Ask, Seen, opening, within, nothing, askOf, seenIn, seenOf, isAck, there, lowestIn}
+use Rattle.link.specs.State.{indexOf, sharesIn, guardOf, lowestFree}
+use Rattle.link.specs.Call.{After, Wish, old, new, bad, wishOf, opens, admits, openingBy, frameOf, readingOf, callOf}
+use Rattle.link.specs.Book.{Request, Command, call, Ask, opening, within, askOf, seenIn, seenOf, isAck, there, lowestIn}
 use Rattle.link.specs.Claim.{State, stateAfter, eventOf, isOpen, opensIt}
 use Rattle.link.specs.Pages.{rowOf, pages, Sane}
 use Rattle.link.proofs.Shown.{and-both, shown}
-use Rattle.link.proofs.Table.{index-set-new, lowest-of-eight, lowest-between, lowest-book}
+use Rattle.link.proofs.Table.{index-set-new, lowest-of-eight, lowest-book}
 
 -- a session that is open has its id in a row
 there-row : (s : State) (i : ℕ) → 1 ≤ i → there (pages s i) ≡ ltb (indexOf i (s .link .rows)) (length (s .link .rows))

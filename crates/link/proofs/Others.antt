@@ -1,6 +1,6 @@
 -- A call that does not name a session leaves its row and its page: the call touches one other row and that row's blocks.
 -- Assumes nothing.
-use Prim.Native.Nat.{ℕ, zero, suc, _+_, _-_, _*_, _≤_, _<_}
+use Prim.Native.Nat.{ℕ, suc, _+_, _-_, _≤_, _<_}
 use mathlib.Core.Path.{_≡_, refl, ap, _∙_, sym, subst}
 use mathlib.Core.Logic.{_⊎_, inl, inr, ⊎-elim}
 use mathlib.Core.Bool.{Bool, true, false, _&&_, not}
@@ -10,8 +10,8 @@ use native.Mathlib.Omega.{arith}
 use lib.Dec.{T, eqb, ltb, leb}
 use lib.ListN.{length, getD, set, length-set}
 use lib.Seq.{getD-set-other}
-use borrow.Author.Tests.{ltb-true, lt-ltb, eqb-false, eq-eqb}
-use Rattle.numbers.specs.Bytes.{pick, unless, part}
+use borrow.Author.Tests.{ltb-true, lt-ltb, eq-eqb}
+use Rattle.numbers.specs.Bytes.{pick, part}
 use Rattle.frame.specs.declared.Header.{Header}
 use Rattle.frame.specs.declared.Extent.{Extent}
 use Rattle.frame.specs.declared.ServiceType.{ServiceType}
@@ -20,7 +20,7 @@ use Rattle.frame.specs.declared.Reading.the-variants as reading
 use Rattle.frame.specs.Read.{readOf}
 use Rattle.frame.proofs.Laws.{either, unless-elim}
 use Rattle.frame.proofs.Answers.{is-frame, session-fourth}
-use Rattle.blocks.specs.Map.{claimed, released}
+use Rattle.blocks.specs.Map.{released}
 use Rattle.blocks.specs.Pool.{blockBytes, appended}
 use Rattle.blocks.proofs.Contents.{append-others, claim-bytes, release-bytes}
 use Rattle.session.specs.declared.Reassembly.{Reassembly}
@@ -33,7 +33,7 @@ use Rattle.session.specs.Decide.{placeOf, rowAfter}
 use Rattle.link.specs.declared.Link.{Link}
 use Rattle.link.specs.declared.Grant.{Grant}
 use Rattle.link.specs.State.{indexOf, ownerOf, sharesIn, guardOf, withRow, withOwners, lowestFree}
-use Rattle.link.specs.Call.{After, after, Wish, old, new, bad, wishOf, opens, admits, openingBy, decisionOf, applied, frameOf, readingOf, callOf}
+use Rattle.link.specs.Call.{After, Wish, old, new, bad, wishOf, opens, admits, openingBy, decisionOf, applied, frameOf, readingOf, callOf}
 use Rattle.link.specs.Book.{Request, Command, call, names}
 use Rattle.link.specs.Claim.{State, stateAfter, isOpen}
 use Rattle.link.specs.Pages.{rowOf, noteOf, notesFrom, pageIf, pages, Sane}

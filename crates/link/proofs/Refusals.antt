@@ -3,11 +3,11 @@
 use Prim.Native.Nat.{ℕ, _+_, _-_, max}
 use mathlib.Core.Path.{_≡_, refl}
 use mathlib.Core.Logic.{_⊎_, inl, inr, ⊎-elim}
-use mathlib.Core.Bool.{Bool, true, false, _&&_, _||_, not}
-use mathlib.Core.List.{List, []}
+use mathlib.Core.Bool.{_&&_, _||_, not}
+use mathlib.Core.List.{List}
 use lib.Dec.{eqb, ltb, leb}
 use lib.ListN.{length, getD}
-use Rattle.numbers.specs.Bytes.{pick, unless, part}
+use Rattle.numbers.specs.Bytes.{part}
 use Rattle.numbers.specs.Numbers.{valueBe}
 use Rattle.frame.specs.declared.Header.{Header}
 use Rattle.frame.specs.declared.Extent.{Extent}
@@ -29,7 +29,7 @@ use Rattle.link.specs.declared.Grant.{Grant}
 use Rattle.link.specs.declared.Answer.{Answer}
 use Rattle.link.specs.declared.Answer.the-variants as answer
 use Rattle.link.specs.State.{indexOf, sharesIn, guardOf}
-use Rattle.link.specs.Call.{After, after, Wish, old, new, bad, wishOf, opens, admits, openingBy, saidOf, decisionOf, applied, frameOf, readingOf, callOf}
+use Rattle.link.specs.Call.{After, Wish, old, new, bad, wishOf, opens, admits, openingBy, saidOf, decisionOf, applied, frameOf, readingOf, callOf}
 
 -- a decision drops a message only by 24 and 25
 abbrev pub DropNumber : Act → Type 0

@@ -5,7 +5,7 @@ use mathlib.Core.Path.{_≡_, refl, ap, _∙_, sym}
 use mathlib.Core.Bool.{Bool, true, false}
 use mathlib.Core.List.{List, _++_}
 use native.Mathlib.Omega.{arith}
-use lib.Dec.{eqb, leb}
+use lib.Dec.{eqb}
 use lib.ListN.{length}
 use borrow.Author.Tests.{le-leb, eq-eqb}
 use Rattle.numbers.specs.Bytes.{pick}
@@ -15,7 +15,7 @@ use Rattle.frame.specs.declared.Reading.the-variants.{Frame}
 use Rattle.frame.specs.Rules.{listedService, infoFits, flagFits, largest, sizeFits, faultOf}
 use Rattle.frame.specs.Read.{extentOf, readOf}
 use Rattle.frame.specs.Write.{messageBytes, frameBytes}
-use Rattle.frame.proofs.Laws.{Sound, no-fault, known, largest-range, frame-length, either}
+use Rattle.frame.proofs.Laws.{no-fault, known, largest-range, frame-length, either}
 use Rattle.frame.proofs.ThereAndBack.{read-back}
 use Rattle.link.specs.Reply.{replyHeader, replyBytes}
 

@@ -8,7 +8,6 @@ use mathlib.Core.List.{List, [], _∷_, _++_, map}
 use lib.Dec.{T, eqb, ltb}
 use lib.ListN.{length}
 use Rattle.numbers.specs.Bytes.{laid}
-use Rattle.frame.specs.declared.ServiceType.{ServiceType}
 use Rattle.blocks.specs.Map.{heldByAll, freeIn}
 use Rattle.payload.specs.declared.version.Version.{Version}
 use Rattle.link.specs.declared.Link.{Link}

@@ -1,8 +1,8 @@
 -- Document 01's marked cases that concern the link, as one list: what the definitions say, beside what the paper says, both as numbers.
 -- Those of frames stand in frame/specs/Figures, those of payloads and version strings in payload. Proved in proofs/Figures.
 -- Assumes nothing.
-use Prim.Native.Nat.{ℕ, _*_, _+_}
-use mathlib.Core.Bool.{Bool, true, false}
+use Prim.Native.Nat.{ℕ, _*_}
+use mathlib.Core.Bool.{false}
 use mathlib.Core.List.{List, [], _∷_, map}
 use mathlib.Core.Path.{_≡_}
 use Rattle.frame.specs.declared.Header.{Header}

@@ -2,7 +2,7 @@
 -- Assumes nothing.
 use Prim.Native.Nat.{ℕ, min}
 use mathlib.Core.Bool.{false}
-use mathlib.Core.List.{List, []}
+use mathlib.Core.List.{List}
 use lib.Dec.{eqb}
 use lib.ListN.{length}
 use Rattle.numbers.specs.Bytes.{pick}
@@ -10,8 +10,7 @@ use Rattle.numbers.specs.Numbers.{bytesBe}
 use Rattle.frame.specs.declared.Header.{Header}
 use Rattle.frame.specs.declared.ServiceType.{ServiceType}
 use Rattle.frame.specs.Write.{frameBytes}
-use Rattle.payload.specs.Tags.{hashId, protocolVersion}
-use Rattle.payload.specs.Reply.{ackPayload, serviceAckPayload, nakPayload}
+use Rattle.payload.specs.Reply.{ackPayload, serviceAckPayload}
 use Rattle.payload.specs.declared.version.Version.{Version}
 
 -- a reply's header: a control frame without flag

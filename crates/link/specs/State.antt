@@ -1,9 +1,9 @@
 -- The link's state: looking up rows, the owners of blocks, and the state rules. Document 01, "The link".
 -- Assumes nothing.
-use Prim.Native.Nat.{ℕ, zero, suc, _+_, _-_, _*_, _/_, max, min}
-use mathlib.Core.Bool.{Bool, true, false, _&&_, _||_, not}
+use Prim.Native.Nat.{ℕ, zero, suc, _+_, _*_, min}
+use mathlib.Core.Bool.{Bool, true, _&&_, _||_, not}
 use mathlib.Core.List.{List, [], _∷_}
-use lib.Dec.{eqb, ltb, leb}
+use lib.Dec.{eqb, leb}
 use lib.ListN.{length, getD, set, replicate}
 use Rattle.numbers.specs.Bytes.{pick}
 use Rattle.frame.specs.Message.{totalsFit}
@@ -11,7 +11,7 @@ use Rattle.blocks.specs.Map.{heldBy, heldByAll, freeIn, freeMap}
 use Rattle.payload.specs.declared.version.Version.{Version}
 use Rattle.session.specs.declared.Reassembly.{Reassembly}
 use Rattle.session.specs.declared.Row.{Row}
-use Rattle.session.specs.Rows.{noRow, freeRow}
+use Rattle.session.specs.Rows.{freeRow}
 use Rattle.session.specs.Rules.{isRunning}
 use Rattle.session.specs.Decide.{needOf, heldOf, shareOf}
 use Rattle.link.specs.declared.Link.{Link}
