@@ -8,6 +8,7 @@ pub mod AllSane
 pub mod Opens
 pub mod Others
 pub mod Deliveries
+pub mod Settings
 pub mod Holdings
 pub mod Created
 pub mod Refusals

@@ -32,16 +32,20 @@ pub record Alike (i : ℕ) (s₁ s₂ : State) : Type 0 where
   pub row₁ : rowOf s₁ i ≡ some the-row
   pub row₂ : rowOf s₂ i ≡ some the-row
   pub page : pages s₁ i ≡ pages s₂ i
+  pub version : s₁ .link .version ≡ s₂ .link .version
+  pub mtu : s₁ .link .mtu ≡ s₂ .link .mtu
 
 -- the laws about one call
 pub record Laws : Type 0 where
   -- every call leads from a state within the rules to another one, and the book follows it
   pub sane : (s : State) (c : Command) → Sane s → Sane (stateAfter s c)
   pub told : (s : State) (c : Command) → Sane s → bookAfter (pages s) c (eventOf s c .answer) ≡ pages (stateAfter s c)
+  -- no call changes the module's version and mtu
+  pub settings : (s : State) (c : Command) → (stateAfter s c .link .version ≡ s .link .version) × (stateAfter s c .link .mtu ≡ s .link .mtu)
   -- a call that does not name a session leaves its row and its page
   pub other-row : (s : State) (c : Command) (i : ℕ) (r : Row) → Sane s → rowOf s i ≡ some r → T (not (names i c)) → rowOf (stateAfter s c) i ≡ some r
   pub other-page : (s : State) (c : Command) (i : ℕ) (r : Row) → Sane s → rowOf s i ≡ some r → T (not (names i c)) → pages (stateAfter s c) i ≡ pages s i
-  -- one that names it is answered alike in states that agree on its row and its page, unless it goes above the guarantee
+  -- one that names it is answered alike in states that agree on its row, its page and the settings, unless it goes above the guarantee
   pub same-answer : (s₁ s₂ : State) (c : Command) (i : ℕ) → Sane s₁ → Sane s₂ → Alike i s₁ s₂ → T (names i c)
       → ModestIn (pages s₂ i) c (eventOf s₂ c .answer) → eventOf s₂ c ≡ eventOf s₁ c
   pub same-after : (s₁ s₂ : State) (c : Command) (i : ℕ) → Sane s₁ → Sane s₂ → Alike i s₁ s₂ → T (names i c)
@@ -146,6 +150,8 @@ module _ (L : Laws) where
         row₁ = L .other-row s₁ c i (k .the-row) g₁ (k .row₁) t;
         row₂ = k .row₂;
         page = L .other-page s₁ c i (k .the-row) g₁ (k .row₁) t ∙ k .page;
+        version = L .settings s₁ c .0 ∙ k .version;
+        mtu = L .settings s₁ c .1 ∙ k .mtu;
       })))
 
   noted-next : (s : State) (c : Command) → Sane s → bookAfter (pages s) (eventOf s c .command) (eventOf s c .answer) ≡ pages (stateAfter s c)
@@ -203,7 +209,7 @@ module _ (L : Laws) where
           let own : List Event = ownOf i (run s₁ rest) in
           let b₁ : bookOf emptyBook (run s₀ (before ++ o ∷ [])) ≡ pages s₁ = shows (before ++ o ∷ []) ∙ ap pages s₁-is in
           let again : run s₁ (map commandOf own) ≡ own
-          = apart s₁ s₁ i rest k₁ k₁ (record { the-row = r .0; row₁ = row; row₂ = row; page = refl }) (subst (λ (b : Book). Modest i b (run s₁ (map commandOf own))) b₁ m) in
+          = apart s₁ s₁ i rest k₁ k₁ (record { the-row = r .0; row₁ = row; row₂ = row; page = refl; version = refl; mtu = refl }) (subst (λ (b : Book). Modest i b (run s₁ (map commandOf own))) b₁ m) in
           run-append s₀ before (o ∷ map commandOf own)
           ∙ ap (λ (y : List Event). run s₀ before ++ y) (run-cons s o (map commandOf own) ∙ ap (λ (y : List Event). eventOf s o ∷ y) again)
           ∙ sym (ap (λ (y : List Event). y ++ own) (run-append s₀ before (o ∷ []) ∙ ap (λ (y : List Event). run s₀ before ++ y) (run-cons s o [] ∙ run-none s o))
