@@ -54,7 +54,7 @@ both-by P true x y u v f g = f refl
 both-by P false x y u v f g = g refl
 
 -- what a call owes for what is due
-abbrev Gives : Request → Option (List ℕ) → After → Type 0
+abbrev pub Gives : Request → Option (List ℕ) → After → Type 0
 Gives q due w = T (isAccepted (w .answer)) → DeliversDue due (record { command = call q; answer = w .answer; out = w .out })
 
 -- no reply and no refusal is a delivery
@@ -199,7 +199,7 @@ module _ (s : State) (q : Request) (n : ℕ) (h : Header) (consumed : ℕ) (payl
       both-by Owes (eqb (h .kind) 2) _ _ _ _ (λ _ _. first-quiet r _ _ _) (λ _. next-gives space)
 
 -- the page of an open session
-page-of : (s : State) (i : ℕ) → isOpen s i ≡ true → pages s i ≡ some (pageOf s (indexOf i (s .link .rows)) (getD (s .link .rows) (indexOf i (s .link .rows)) noRow))
+pub page-of : (s : State) (i : ℕ) → isOpen s i ≡ true → pages s i ≡ some (pageOf s (indexOf i (s .link .rows)) (getD (s .link .rows) (indexOf i (s .link .rows)) noRow))
 unfolding pages rowOf
 page-of s i e = rw e
 
@@ -209,7 +209,7 @@ is-open s i e = e
 
 module _ (s : State) (q : Request) (k : Sane s) where
   -- a frame of a session's row
-  row-gives : (h : Header) (e : Extent) → readOf (q .input) ≡ reading.Frame h e → isOpen s (h .session .0) ≡ true
+  pub row-gives : (h : Header) (e : Extent) → readOf (q .input) ≡ reading.Frame h e → isOpen s (h .session .0) ≡ true
       → (let payload : List ℕ = part (q .input) (e .start) (e .end - e .start) in
       let n : ℕ = indexOf (h .session .0) (s .link .rows) in
       Gives q (dueOn (pages s (h .session .0)) (askOf h payload))

@@ -9,6 +9,7 @@ pub mod Opens
 pub mod Others
 pub mod Deliveries
 pub mod Settings
+pub mod Answers
 pub mod Holdings
 pub mod Created
 pub mod Refusals

@@ -254,7 +254,7 @@ module _ (s : State) (i : ℕ) (k : Sane s) (opened : isOpen s i ≡ true) where
     call-leaves t = unless-elim (Leaves s i) (guardOf (s .link) (length (s .pool)) (q .grant)) _ _ (λ u. (refl, refl)) (λ u. reading-leaves t (readOf (q .input)) refl)
 
 -- a session with a row is open
-row-open : (s : State) (i : ℕ) (r : Row) → rowOf s i ≡ some r → isOpen s i ≡ true
+pub row-open : (s : State) (i : ℕ) (r : Row) → rowOf s i ≡ some r → isOpen s i ≡ true
 unfolding rowOf
 row-open s i r e = byOpen (isOpen s i) e
   where
