@@ -68,9 +68,11 @@ fn number(word: &[u8], most: usize) -> Parsed {
 }
 
 // The words behind a space as numbers, one for each limit, to the front of `values`. Answers where the last one ends.
-pub fn numbers(line: &[u8], space: usize, limits: &[usize], values: &mut [usize]) -> Parsed
-    requires { ⌜ length (now limits) ≤ length (now values) ⌝ }
-{
+// More limits than places for values cannot be read.
+pub fn numbers(line: &[u8], space: usize, limits: &[usize], values: &mut [usize]) -> Parsed {
+    if values.len() < limits.len() {
+        return Parsed::Bad;
+    }
     let mut end = space;
     let mut i: usize = 0;
     while i < limits.len() {

@@ -1,4 +1,4 @@
--- `driver::words::numbers` is safe and ends. There is a value for each limit, and each turn passes one limit.
+-- `driver::words::numbers` is safe and ends. Behind its first test there is a value for each limit, and each turn passes one limit.
 -- Assumes nothing.
 use Prim.Native.Nat.{_≤_, _-_}
 use mathlib.Core.Path.{_≡_}
@@ -12,6 +12,9 @@ Inv-loop line space limits values₀ end₀ i₀ values end i = (i ≤ length li
 
 abbrev μ-loop : tie.MeasureT-loop
 μ-loop line space limits values₀ end₀ i₀ values end i = length limits - i
+
+returns : tie.Need-returns Inv-loop μ-loop
+returns c = search needs
 
 loop-holds : tie.Need-loop-holds Inv-loop μ-loop
 loop-holds c = search needs
@@ -40,8 +43,8 @@ enum-told c = search needs
 same-length : tie.Need-same-length Inv-loop μ-loop
 same-length c = search needs
 
-returns : tie.Need-returns Inv-loop μ-loop
-returns c = search needs
+returns-2 : tie.Need-returns-2 Inv-loop μ-loop
+returns-2 c = search needs
 
 mul-values : tie.Need-mul-values Inv-loop μ-loop
 mul-values c = search needs
@@ -61,8 +64,8 @@ loop-again c = search needs
 same-length-2 : tie.Need-same-length-2 Inv-loop μ-loop
 same-length-2 c = search needs
 
-returns-2 : tie.Need-returns-2 Inv-loop μ-loop
-returns-2 c = search needs
+returns-3 : tie.Need-returns-3 Inv-loop μ-loop
+returns-3 c = search needs
 
 pub numbers-spec : {M : Type 1} → statement M
 numbers-spec =
@@ -70,6 +73,7 @@ numbers-spec =
     (tie.spec
     Inv-loop
     μ-loop
+    returns
     loop-holds
     word-end-requires
     between-requires
@@ -79,11 +83,11 @@ numbers-spec =
     enum-known-value
     enum-told
     same-length
-    returns
+    returns-2
     mul-values
     slice-write-values
     add-i
     loop-less
     loop-again
     same-length-2
-    returns-2)
+    returns-3)
