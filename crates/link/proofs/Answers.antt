@@ -49,7 +49,7 @@ use Rattle.link.proofs.Others.{row-open}
 use Rattle.link.proofs.Lists.{Alike}
 
 -- the row that an open session's id leads to
-row-is : (s : State) (i : ℕ) (r : Row) → rowOf s i ≡ some r → getD (s .link .rows) (indexOf i (s .link .rows)) noRow ≡ r
+pub row-is : (s : State) (i : ℕ) (r : Row) → rowOf s i ≡ some r → getD (s .link .rows) (indexOf i (s .link .rows)) noRow ≡ r
 unfolding rowOf
 row-is s i r e = byOpen (isOpen s i) e
   where
@@ -97,11 +97,11 @@ first-same r o₁ o₂ h total count f =
     go false b c g = refl
 
 -- tests that two and three choices share
-two-unless : {A B : Type 0} (P : A → B → Type 0) (b : Bool) (x y : A) (u v : B) → (b ≡ false → P x u) → (b ≡ true → P y v) → P (unless b x y) (unless b u v)
+pub two-unless : {A B : Type 0} (P : A → B → Type 0) (b : Bool) (x y : A) (u v : B) → (b ≡ false → P x u) → (b ≡ true → P y v) → P (unless b x y) (unless b u v)
 two-unless P true x y u v f g = g refl
 two-unless P false x y u v f g = f refl
 
-three-by : {A B C : Type 0} (P : A → B → C → Type 0) (b : Bool) (x y : A) (u v : B) (s t : C) → (b ≡ true → P x u s) → (b ≡ false → P y v t) → P (pick b x y) (pick b u v) (pick b s t)
+pub three-by : {A B C : Type 0} (P : A → B → C → Type 0) (b : Bool) (x y : A) (u v : B) (s t : C) → (b ≡ true → P x u s) → (b ≡ false → P y v t) → P (pick b x y) (pick b u v) (pick b s t)
 three-by P true x y u v s t f g = f refl
 three-by P false x y u v s t f g = g refl
 
@@ -228,12 +228,12 @@ guard-is s g k = rw (k .pool, k .settings, k .rules) (and-true (grantFits g))
     and-true true = refl
     and-true false = refl
 
-open-test : (s : State) (i : ℕ) → isOpen s i ≡ true → not (eqb i 0) && ltb (indexOf i (s .link .rows)) (length (s .link .rows)) ≡ true
+pub open-test : (s : State) (i : ℕ) → isOpen s i ≡ true → not (eqb i 0) && ltb (indexOf i (s .link .rows)) (length (s .link .rows)) ≡ true
 unfolding isOpen
 open-test s i e = e
 
 -- an opening names session 0
-opens-zero : (h : Header) → opens h ≡ true → h .session .0 ≡ 0
+pub opens-zero : (h : Header) → opens h ≡ true → h .session .0 ≡ 0
 unfolding opens
 opens-zero h e =
     let a = and-both (eqb (h .version) 1) _ e in
@@ -245,7 +245,30 @@ module _ (s₁ s₂ : State) (q : Request) (k₁ : Sane s₁) (k₂ : Sane s₂)
   abbrev Alikely : ℕ → Seen → After → After → Type 0
   Alikely i seen w₁ w₂ = ModestOn (pages s₂ i) seen (w₂ .answer) → Like w₁ w₂
 
-  -- a frame of the session's row
+  -- a frame of the session's row is decided alike
+  pub decided-alike : (h : Header) (consumed : ℕ) (payload : List ℕ) → Alike (h .session .0) s₁ s₂
+      → (let i : ℕ = h .session .0 in
+      let n₁ : ℕ = indexOf i (s₁ .link .rows) in
+      let n₂ : ℕ = indexOf i (s₂ .link .rows) in
+      let d₂ : Act = decisionOf (s₂ .link) n₂ h payload (length (q .out)) in
+      ModestOn (pages s₂ i) (within i (askOf h payload)) (applied (s₂ .link) n₂ (s₂ .pool) (q .out) h consumed payload (q .grant) d₂ .answer)
+      → decisionOf (s₁ .link) n₁ h payload (length (q .out)) ≡ d₂)
+  decided-alike h consumed payload a m =
+      let i : ℕ = h .session .0 in
+      let r : Row = a .the-row in
+      let n₁ : ℕ = indexOf i (s₁ .link .rows) in
+      let n₂ : ℕ = indexOf i (s₂ .link .rows) in
+      let o₁ : isOpen s₁ i ≡ true = row-open s₁ i r (a .row₁) in
+      let o₂ : isOpen s₂ i ≡ true = row-open s₂ i r (a .row₂) in
+      let e₁ : getD (s₁ .link .rows) n₁ noRow ≡ r = row-is s₁ i r (a .row₁) in
+      let e₂ : getD (s₂ .link .rows) n₂ noRow ≡ r = row-is s₂ i r (a .row₂) in
+      let d₂ : Act = decisionOf (s₂ .link) n₂ h payload (length (q .out)) in
+      let page : pages s₂ i ≡ some (pageOf s₂ n₂ r) = page-of s₂ i o₂ ∙ ap (λ (x : Row). some (pageOf s₂ n₂ x)) e₂ in
+      let m′ : ModestOn (some (pageOf s₂ n₂ r)) (within i (askOf h payload)) (applied (s₂ .link) n₂ (s₂ .pool) (q .out) h consumed payload (q .grant) d₂ .answer)
+      = subst (λ (p : Option Page). ModestOn p (within i (askOf h payload)) (applied (s₂ .link) n₂ (s₂ .pool) (q .out) h consumed payload (q .grant) d₂ .answer)) page m in
+      decisions-agree s₁ s₂ q h consumed payload n₁ n₂ r e₁ e₂ (a .version) (a .mtu) k₁ k₂ (open-index s₁ i o₁ .1) (open-index s₂ i o₂ .1) i (length (q .out)) m′
+
+  -- and answered alike
   row-like : (h : Header) (e : Extent) → readOf (q .input) ≡ reading.Frame h e → Alike (h .session .0) s₁ s₂
       → (let i : ℕ = h .session .0 in
       let payload : List ℕ = part (q .input) (e .start) (e .end - e .start) in
@@ -260,22 +283,16 @@ module _ (s₁ s₂ : State) (q : Request) (k₁ : Sane s₁) (k₂ : Sane s₂)
       let payload : List ℕ = part (q .input) (e .start) (e .end - e .start) in
       let n₁ : ℕ = indexOf i (s₁ .link .rows) in
       let n₂ : ℕ = indexOf i (s₂ .link .rows) in
-      let o₁ : isOpen s₁ i ≡ true = row-open s₁ i r (a .row₁) in
-      let o₂ : isOpen s₂ i ≡ true = row-open s₂ i r (a .row₂) in
       let e₁ : getD (s₁ .link .rows) n₁ noRow ≡ r = row-is s₁ i r (a .row₁) in
       let e₂ : getD (s₂ .link .rows) n₂ noRow ≡ r = row-is s₂ i r (a .row₂) in
       let d₁ : Act = decisionOf (s₁ .link) n₁ h payload (length (q .out)) in
       let d₂ : Act = decisionOf (s₂ .link) n₂ h payload (length (q .out)) in
       let after₁ : Act → After = λ act. applied (s₁ .link) n₁ (s₁ .pool) (q .out) h (e .consumed) payload (q .grant) act in
       let after₂ : Act → After = λ act. applied (s₂ .link) n₂ (s₂ .pool) (q .out) h (e .consumed) payload (q .grant) act in
-      let page : pages s₂ i ≡ some (pageOf s₂ n₂ r) = page-of s₂ i o₂ ∙ ap (λ (x : Row). some (pageOf s₂ n₂ x)) e₂ in
-      let m′ : ModestOn (some (pageOf s₂ n₂ r)) (within i (askOf h payload)) (after₂ d₂ .answer)
-      = subst (λ (p : Option Page). ModestOn p (within i (askOf h payload)) (after₂ d₂ .answer)) page m in
-      let same : d₁ ≡ d₂
-      = decisions-agree s₁ s₂ q h (e .consumed) payload n₁ n₂ r e₁ e₂ (a .version) (a .mtu) k₁ k₂ (open-index s₁ i o₁ .1) (open-index s₂ i o₂ .1) i (length (q .out)) m′ in
+      let same : d₁ ≡ d₂ = decided-alike h (e .consumed) payload a m in
       let due : Option (List ℕ) = dueOn (pages s₂ i) (askOf h payload) in
-      let g₁ : Gives q due (after₁ d₁) = subst (λ (p : Option Page). Gives q (dueOn p (askOf h payload)) (after₁ d₁)) (a .page) (row-gives s₁ q k₁ h e f o₁) in
-      let g₂ : Gives q due (after₂ d₂) = row-gives s₂ q k₂ h e f o₂ in
+      let g₁ : Gives q due (after₁ d₁) = subst (λ (p : Option Page). Gives q (dueOn p (askOf h payload)) (after₁ d₁)) (a .page) (row-gives s₁ q k₁ h e f (row-open s₁ i r (a .row₁))) in
+      let g₂ : Gives q due (after₂ d₂) = row-gives s₂ q k₂ h e f (row-open s₂ i r (a .row₂)) in
       subst (λ (x : Act). Like (after₁ x) (after₂ d₂)) (sym same)
       (acts-like s₁ s₂ q h (e .consumed) payload n₁ n₂ r e₁ e₂ (a .version) (a .mtu) due d₂ (subst (λ (x : Act). Gives q due (after₁ x)) same g₁) g₂)
 
@@ -293,7 +310,7 @@ module _ (s₁ s₂ : State) (q : Request) (k₁ : Sane s₁) (k₂ : Sane s₂)
       rw (open-test s₁ i o₁, open-test s₂ i o₂) (row-like h e f a)
 
   -- the fourth byte is the session id
-  named : (i : ℕ) (h : Header) (e : Extent) → readOf (q .input) ≡ reading.Frame h e → T (names i (call q)) → i ≡ h .session .0
+  pub named : (i : ℕ) (h : Header) (e : Extent) → readOf (q .input) ≡ reading.Frame h e → T (names i (call q)) → i ≡ h .session .0
   named i h e f t = sym (session-fourth (q .input) h e f ∙ eqb-true (getD (q .input) 3 0) i (second (ltb 3 (length (q .input))) (eqb (getD (q .input) 3 0) i) t))
     where
       second : (a b : Bool) → T (a && b) → b ≡ true

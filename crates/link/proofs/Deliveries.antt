@@ -32,24 +32,23 @@ use Rattle.session.specs.Decide.{placeOf, needOf, heldBy, heldOf, firstOf, dueN
 use Rattle.frame.specs.Message.{totalsFit}
 use Rattle.link.specs.declared.Link.{Link}
 use Rattle.link.specs.declared.Grant.{Grant}
-use Rattle.link.specs.State.{indexOf, ownerOf, guardOf, rowFits}
+use Rattle.link.specs.State.{indexOf, ownerOf, guardOf}
 use Rattle.link.specs.Call.{After, Wish, old, new, bad, wishOf, opens, admits, openingBy, saidOf, decisionOf, applied, frameOf, readingOf, callOf}
 use Rattle.link.specs.Book.{Request, Command, call, Ask, single, next, end, other, Seen, opening, within, askOf, seenIn, seenOf, isAccepted, Note, noNote, Page, dueFor, dueOn, dueIn, dueOf}
 use Rattle.link.specs.Claim.{State, eventOf, isOpen, isDelivery, DeliversDue}
 use Rattle.link.specs.Pages.{rowOf, noteOf, notesFrom, pageOf, pages, Sane}
-use Rattle.link.proofs.Shown.{rules-say}
-use Rattle.link.proofs.Holdings.{all-at, five-at, open-index, index-id, OpenRow, row-rules}
-use Rattle.link.proofs.RowRules.{RowFacts, facts-of, Fits, runsAt, place-below, both, or-then, blocks-say}
+use Rattle.link.proofs.OpenRows.{open-facts}
+use Rattle.link.proofs.RowRules.{Fits, place-below, both, or-then}
 
 -- the note at a place is read off the message there
-notes-at : (s : State) (n from : ℕ) (ms : List Reassembly) (k : ℕ) → k < length ms → getD (notesFrom s n from ms) k noNote ≡ noteOf s n (from + k) (getD ms k noReassembly)
+pub notes-at : (s : State) (n from : ℕ) (ms : List Reassembly) (k : ℕ) → k < length ms → getD (notesFrom s n from ms) k noNote ≡ noteOf s n (from + k) (getD ms k noReassembly)
 unfolding notesFrom
 notes-at s n from [] k h = absurd (omega arith)
 notes-at s n from (m ∷ ms) zero h = let z : from + 0 ≡ from = omega arith in rw z
 notes-at s n from (m ∷ ms) (suc k) h = let z : from + suc k ≡ suc from + k = omega arith in rw z (notes-at s n (suc from) ms k (omega arith))
 
 -- a test that two choices share
-both-by : {A B : Type 0} (P : A → B → Type 0) (b : Bool) (x y : A) (u v : B) → (b ≡ true → P x u) → (b ≡ false → P y v) → P (pick b x y) (pick b u v)
+pub both-by : {A B : Type 0} (P : A → B → Type 0) (b : Bool) (x y : A) (u v : B) → (b ≡ true → P x u) → (b ≡ false → P y v) → P (pick b x y) (pick b u v)
 both-by P true x y u v f g = f refl
 both-by P false x y u v f g = g refl
 
@@ -67,7 +66,7 @@ opening-quiet l p o consumed g old = unless-elim Quiet (admits (l .rows) g) _ _ 
 opening-quiet l p o consumed g (new v) = unless-elim Quiet (admits (l .rows) g) _ _ (λ e. refl) (λ e. refl)
 
 -- a message's blocks have room for all of it
-need-holds : (total : ℕ) → total ≤ 256 * needOf total
+pub need-holds : (total : ℕ) → total ≤ 256 * needOf total
 unfolding needOf
 need-holds total = omega arith
 
@@ -203,7 +202,7 @@ pub page-of : (s : State) (i : ℕ) → isOpen s i ≡ true → pages s i ≡ so
 unfolding pages rowOf
 page-of s i e = rw e
 
-is-open : (s : State) (i : ℕ) → not (eqb i 0) && ltb (indexOf i (s .link .rows)) (length (s .link .rows)) ≡ true → isOpen s i ≡ true
+pub is-open : (s : State) (i : ℕ) → not (eqb i 0) && ltb (indexOf i (s .link .rows)) (length (s .link .rows)) ≡ true → isOpen s i ≡ true
 unfolding isOpen
 is-open s i e = e
 
@@ -216,26 +215,13 @@ module _ (s : State) (q : Request) (k : Sane s) where
       (applied (s .link) n (s .pool) (q .out) h (e .consumed) payload (q .grant) (decisionOf (s .link) n h payload (length (q .out)))))
   row-gives h e f o =
       let i : ℕ = h .session .0 in
-      let rs : List Row = s .link .rows in
-      let n : ℕ = indexOf i rs in
-      let r : Row = getD rs n noRow in
+      let n : ℕ = indexOf i (s .link .rows) in
       let payload : List ℕ = part (q .input) (e .start) (e .end - e .start) in
-      let at = open-index s i o in
-      let five : length (r .messages) ≡ 5 = five-at rs n (k .five) (at .1) in
-      let z : r .id .0 ≡ 0 → ⊥ = λ x. at .0 (sym (index-id i rs (at .1)) ∙ x) in
-      let y : 0 + n ≡ n = omega arith in
-      let t : rowFits (s .link .version .major) (s .link .owners) n r ≡ true
-      = rw y at (all-at noRow (rowFits (s .link .version .major) (s .link .owners)) 0 rs n (rules-say (s .link) (k .rules) .rows) (at .1)) in
-      let g : OpenRow (s .link .version .major) n (s .link .owners) r = row-rules (s .link .version .major) n (s .link .owners) r t z in
-      let facts : RowFacts (s .link .version .major) r
-      = facts-of (s .link .version .major) r five (record { room = g .room; version = g .version; unsettled = g .unsettled; messages = g .messages }) in
+      let r = open-facts s i k o in
       subst (λ (p : Option Page). Gives q (dueOn p (askOf h payload))
       (applied (s .link) n (s .pool) (q .out) h (e .consumed) payload (q .grant) (decisionOf (s .link) n h payload (length (q .out)))))
       (sym (page-of s i o))
-      (decision-gives s q n h (e .consumed) payload k (payload-length (q .input) h e f) five
-      (λ place b. (runsAt r place, facts .messages place (omega (arith, five, b))))
-      (λ place b. blocks-say (s .link .owners) n r (g .blocks) place (omega (arith, five, b)))
-      (length (q .out)))
+      (decision-gives s q n h (e .consumed) payload k (payload-length (q .input) h e f) (r .five) (r .fits) (r .room) (length (q .out)))
 
   frame-gives : (h : Header) (e : Extent) → readOf (q .input) ≡ reading.Frame h e
       → Gives q (dueIn (pages s) (seenIn (q .input) (reading.Frame h e))) (frameOf (s .link) (s .pool) (q .input) (q .out) h e (q .grant))

@@ -8,10 +8,15 @@ pub mod AllSane
 pub mod Opens
 pub mod Others
 pub mod Deliveries
+pub mod PageAfter
+pub mod BookAfter
+pub mod SameAfter
 pub mod Settings
 pub mod Answers
 pub mod Holdings
+pub mod OpenRows
 pub mod Created
+pub mod Demand
 pub mod Refusals
 pub mod Replies
 pub mod Figures

@@ -35,11 +35,11 @@ unfolding isOpen
 there-row s i h = sym (shown s i) ∙ rw (ne-eqb i 0 (λ z. omega arith))
 
 -- the lowest id not in the book is the lowest not in a row
-lowest-same : (s : State) → lowestIn (pages s) 255 1 ≡ lowestFree 255 1 (s .link .rows)
+pub lowest-same : (s : State) → lowestIn (pages s) 255 1 ≡ lowestFree 255 1 (s .link .rows)
 lowest-same s = lowest-book (pages s) (s .link .rows) (λ i h. there-row s i h) 255 1 (omega arith)
 
 -- a row stored in the first free place under that id is found there
-entered : (s : State) (l : Link) (p : List ℕ) (r : Row) → Sane s → indexOf 0 (s .link .rows) < length (s .link .rows)
+pub entered : (s : State) (l : Link) (p : List ℕ) (r : Row) → Sane s → indexOf 0 (s .link .rows) < length (s .link .rows)
     → r .id .0 ≡ lowestFree 255 1 (s .link .rows) → l .rows ≡ set (s .link .rows) (indexOf 0 (s .link .rows)) r
     → rowOf (record { link = l; pool = p }) (lowestIn (pages s) 255 1) ≡ some r
 unfolding rowOf isOpen
@@ -57,11 +57,11 @@ abbrev Enters : State → After → Type 0
 Enters s w = T (isAck (w .answer)) → (r : Row) × (rowOf (record { link = w .link; pool = w .pool }) (lowestIn (pages s) 255 1) ≡ some r)
 
 module _ (s : State) (q : Request) (k : Sane s) where
-  admitted-index : admits (s .link .rows) (q .grant) ≡ true → indexOf 0 (s .link .rows) < length (s .link .rows)
+  pub admitted-index : admits (s .link .rows) (q .grant) ≡ true → indexOf 0 (s .link .rows) < length (s .link .rows)
   unfolding admits
   admitted-index e = ltb-true (indexOf 0 (s .link .rows)) (length (s .link .rows)) (and-both (ltb (indexOf 0 (s .link .rows)) (length (s .link .rows))) (leb (sharesIn (s .link .rows) + q .grant .guarantee) 256) e .0)
 
-  the-row : ℕ → Row
+  pub the-row : ℕ → Row
   the-row v = openedRow (record { 0 = lowestFree 255 1 (s .link .rows) }) (q .grant .guarantee) (q .grant .cap) v (q .grant .hash)
 
   opening-enters : (consumed : ℕ) (w : Wish) → Enters s (openingBy (s .link) (s .pool) (q .out) consumed (q .grant) w)

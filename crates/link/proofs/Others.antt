@@ -43,21 +43,21 @@ use Rattle.link.proofs.Table.{index-set-other, lowest-of-eight}
 use Rattle.link.proofs.RowRules.{place-below}
 
 -- no method of a row but its closing changes its id
-with-id : (r : Row) (place : ℕ) (m : Reassembly) → withMessageAt r place m .id .0 ≡ r .id .0
+pub with-id : (r : Row) (place : ℕ) (m : Reassembly) → withMessageAt r place m .id .0 ≡ r .id .0
 unfolding withMessageAt
 with-id r place m = either (λ (x : Row). x .id .0 ≡ r .id .0) (ltb place 5) _ r (λ e. refl) (λ e. refl)
 
-settled-id : (r : Row) (v : ℕ) → settledRow r v .id .0 ≡ r .id .0
+pub settled-id : (r : Row) (v : ℕ) → settledRow r v .id .0 ≡ r .id .0
 unfolding settledRow
 settled-id r v = either (λ (x : Row). x .id .0 ≡ r .id .0) (eqb (r .version) 0) _ r (λ e. refl) (λ e. refl)
 
-service-id : (r : Row) (s : ServiceType) (x : Running) → withService r s x .id .0 ≡ r .id .0
+pub service-id : (r : Row) (s : ServiceType) (x : Running) → withService r s x .id .0 ≡ r .id .0
 unfolding withService
 service-id r s x =
     either (λ (y : Row). y .id .0 ≡ r .id .0) (eqb (s .0) 0x0A) _ _ (λ e. refl) (λ e. either (λ (y : Row). y .id .0 ≡ r .id .0) (eqb (s .0) 0x0B) _ r (λ f. refl) (λ f. refl))
 
 -- the id after a decision: the same, or 0
-after-id : (r : Row) (h : Header) (hash : ℕ) (act : Act) → (rowAfter r h hash act .id .0 ≡ r .id .0) ⊎ (rowAfter r h hash act .id .0 ≡ 0)
+pub after-id : (r : Row) (h : Header) (hash : ℕ) (act : Act) → (rowAfter r h hash act .id .0 ≡ r .id .0) ⊎ (rowAfter r h hash act .id .0 ≡ 0)
 after-id r h hash (Refuse n) = inl refl
 after-id r h hash (Drop n) = inl (with-id r _ _)
 after-id r h hash Accept = inl refl
@@ -77,7 +77,7 @@ owner-other : (n m q place : ℕ) → (n ≡ m → ⊥) → q < 5 → place < 5 
 unfolding ownerOf
 owner-other n m q place d a b e = omega arith
 
-owner-some : (n q : ℕ) → ownerOf n q ≡ 0 → ⊥
+pub owner-some : (n q : ℕ) → ownerOf n q ≡ 0 → ⊥
 unfolding ownerOf
 owner-some n q e = omega arith
 
@@ -179,7 +179,7 @@ module _ (s : State) (i : ℕ) (k : Sane s) (opened : isOpen s i ≡ true) where
     kept : (q : ℕ) → q < 5 → blockBytes (ownerOf (indexOf i (s .link .rows)) q) (s .link .owners) (s .pool) ≡ blockBytes (ownerOf (indexOf i (s .link .rows)) q) (s .link .owners) (s .pool)
     kept q b = refl
 
-    applied-leaves : (act : Act) → Leaves s i (applied (s .link) m (s .pool) out h consumed payload g act)
+    pub applied-leaves : (act : Act) → Leaves s i (applied (s .link) m (s .pool) out h consumed payload g act)
     applied-leaves (Refuse c) = (refl, refl)
     applied-leaves (Drop c) = stored m _ _ (s .pool) x (not-mine (Drop c)) (freed (s .pool))
     applied-leaves Accept = (refl, refl)
@@ -205,7 +205,7 @@ module _ (s : State) (i : ℕ) (k : Sane s) (opened : isOpen s i ≡ true) where
     unfolding admits
     taken-index e = ltb-true (indexOf 0 (s .link .rows)) (length (s .link .rows)) (and-both (ltb (indexOf 0 (s .link .rows)) (length (s .link .rows))) (leb (sharesIn (s .link .rows) + q .grant .guarantee) 256) e .0)
 
-    entered-leaves : (v : ℕ) → admits (s .link .rows) (q .grant) ≡ true
+    pub entered-leaves : (v : ℕ) → admits (s .link .rows) (q .grant) ≡ true
         → (rowOf (record { link = withRow (s .link) (indexOf 0 (s .link .rows)) (openedRow (record { 0 = lowestFree 255 1 (s .link .rows) }) (q .grant .guarantee) (q .grant .cap) v (q .grant .hash)); pool = s .pool }) i ≡ rowOf s i)
         × (pages (record { link = withRow (s .link) (indexOf 0 (s .link .rows)) (openedRow (record { 0 = lowestFree 255 1 (s .link .rows) }) (q .grant .guarantee) (q .grant .cap) v (q .grant .hash)); pool = s .pool }) i ≡ pages s i)
     entered-leaves v e =
