@@ -16,6 +16,7 @@ pub mod Answers
 pub mod Holdings
 pub mod OpenRows
 pub mod Created
+pub mod Arrival
 pub mod Demand
 pub mod Refusals
 pub mod Replies

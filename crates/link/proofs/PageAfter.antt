@@ -142,7 +142,7 @@ announced-note t n place id total count =
 
 -- a frame of an open message in the book: not the last, or the last
 module _ (p : Page) (place id : ℕ) (payload : List ℕ) (x : Note) (e : noteAt p place ≡ x) (u : isUnder x id ≡ true) where
-  added-on : eqb (suc (x .came)) (x .count) ≡ false
+  pub added-on : eqb (suc (x .came)) (x .count) ≡ false
       → added p place id payload
       ≡ withNote p place (record { live = x .live; id = x .id; need = x .need; count = x .count; came = suc (x .came); bytes = x .bytes ++ payload })
   unfolding added

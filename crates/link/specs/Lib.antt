@@ -4,4 +4,5 @@ pub mod Call
 pub mod Book
 pub mod Claim
 pub mod Pages
+pub mod Arrival
 pub mod Figures

@@ -40,14 +40,14 @@ module _ (o : Outgoing) (m : List ℕ) (a : Accepted o m) where
   unfolding lastPlace
   last-single e = rw e
 
-  last-several : fitsOne o m ≡ false → lastPlace o m ≡ countOf o m
+  pub last-several : fitsOne o m ≡ false → lastPlace o m ≡ countOf o m
   unfolding lastPlace
   last-several e = rw e
 
   wide : 1 ≤ o .chunk
   wide = chunk-range (o .version) (o .chunk) (a .ready .chunk) .0
 
-  totals : fitsOne o m ≡ false → totalsFit (length m) (countOf o m) ≡ true
+  pub totals : fitsOne o m ≡ false → totalsFit (length m) (countOf o m) ≡ true
   totals e = or-right (fitsOne o m) (totalsFit (length m) (countOf o m)) (a .totals) e
 
   -- no frame has a fault
