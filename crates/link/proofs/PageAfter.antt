@@ -26,7 +26,7 @@ use Rattle.session.specs.declared.Said.{Said}
 use Rattle.session.specs.declared.Act.{Act}
 use Rattle.session.specs.declared.Act.the-variants.{Refuse, Drop, Accept, Beat, Start, NoStart, Stop, Close, NoEnd, Claim, Append, Deliver, Single}
 use Rattle.session.specs.Rows.{noRow, freeRow, noReassembly, messageAt, withMessages, withMessageAt, settledRow, withService, announced, shortened, ackedRow, droppedRow}
-use Rattle.session.specs.Rules.{versionFits, mtuFits, serviceFits, commandFits, barredBy}
+use Rattle.session.specs.Rules.{barredBy}
 use Rattle.session.specs.Decide.{placeOf, needOf, heldBy, heldOf, firstOf, dueNumber, sized, nextFor, singleOf, startable, startOf, endable, hashOf, endOf, controlOf, contentOf, rowAfter}
 use Rattle.link.specs.State.{indexOf, ownerOf, withRow, withOwners}
 use Rattle.link.specs.Call.{After, saidOf, decisionOf, applied}
@@ -36,7 +36,7 @@ use Rattle.link.specs.Claim.{State, isOpen}
 use Rattle.link.specs.Pages.{rowOf, noteOf, notesFrom, pageOf, pageIf, pages, Sane}
 use Rattle.link.proofs.Shown.{rules-say}
 use Rattle.link.proofs.Table.{index-set-same, index-set-gone}
-use Rattle.link.proofs.RowRules.{OpenFits, Fits, place-below, both}
+use Rattle.link.proofs.RowRules.{OpenFits, Fits, place-below, both, barred-most}
 use Rattle.link.proofs.Others.{owner-some}
 use Rattle.link.proofs.Deliveries.{notes-at, both-by, need-holds}
 
@@ -167,17 +167,6 @@ place-other service e =
 
 pub never : _≡_ {A = Bool} true false → ⊥
 never e = let z : _≡_ {A = ℕ} 0 1 = cc in omega arith
-
--- 13 to 17 are below 24
-barred-below : (major mtu : ℕ) (r : Row) (h : Header) → 18 ≤ barredBy major mtu r h → ⊥
-unfolding barredBy
-barred-below major mtu r h =
-    let P : ℕ → Type 0 = λ c. 18 ≤ c → ⊥ in
-    unless-elim P (not (h .flag)) 13 _ (λ _ z. omega arith) λ _.
-    unless-elim P (versionFits major r (h .version)) 14 _ (λ _ z. omega arith) λ _.
-    unless-elim P (mtuFits mtu r (h .size)) 15 _ (λ _ z. omega arith) λ _.
-    unless-elim P (serviceFits r h) 16 _ (λ _ z. omega arith) λ _.
-    unless-elim P (commandFits r h) 17 0 (λ _ z. omega arith) (λ _ z. omega arith)
 
 -- ---- the page of an open session: n its row's place, r the row
 
@@ -449,7 +438,7 @@ module _ (s : State) (i n : ℕ) (k : Sane s) (at : indexOf i (s .link .rows) �
     decision-tells space =
         let b : ℕ = barredBy (s .link .version .major) (s .link .mtu) r h in
         unless-elim (Tells (askOf h payload)) (eqb b 0) (Refuse b) _
-        (λ _. refuse-tells (askOf h payload) b (λ e. barred-below (s .link .version .major) (s .link .mtu) r h (omega arith)) (λ e. barred-below (s .link .version .major) (s .link .mtu) r h (omega arith))) λ _.
+        (λ _. let below : b ≤ 23 = barred-most (s .link .version .major) (s .link .mtu) r h in refuse-tells (askOf h payload) b (λ e. omega arith) (λ e. omega arith)) λ _.
         both-by Tells (eqb (h .kind) 0) _ _ _ _
         (λ _. either (λ (a : Ask). Tells a (controlOf r h (saidOf r payload))) (eqb (h .info) 0x04) (end place) other
         (λ e. subst (Tells (end place)) (sym (control-end (saidOf r payload) e)) (end-tells (saidOf r payload))) (λ e. other-tells (saidOf r payload) e)) λ _.

@@ -332,6 +332,17 @@ served major mtu r h e =
     let p₅ = passed (commandFits r h) 17 0 (λ z. omega arith) (p₄ .1) in
     record { flag = not-true (h .flag) (p₁ .0); version = p₂ .0; mtu-fits = p₃ .0; service = p₄ .0; command = p₅ .0 }
 
+-- 13 to 17 are below 24
+pub barred-most : (major mtu : ℕ) (r : Row) (h : Header) → barredBy major mtu r h ≤ 23
+unfolding barredBy
+barred-most major mtu r h =
+    let P : ℕ → Type 0 = λ c. c ≤ 23 in
+    unless-elim P (not (h .flag)) 13 _ (λ _. omega arith) λ _.
+    unless-elim P (versionFits major r (h .version)) 14 _ (λ _. omega arith) λ _.
+    unless-elim P (mtuFits mtu r (h .size)) 15 _ (λ _. omega arith) λ _.
+    unless-elim P (serviceFits r h) 16 _ (λ _. omega arith) λ _.
+    unless-elim P (commandFits r h) 17 0 (λ _. omega arith) (λ _. omega arith)
+
 -- a settled row takes only its own version
 pub fits-settled : (major : ℕ) (r : Row) (v : ℕ) → versionFits major r v ≡ true → eqb (r .version) 0 ≡ false → v ≡ r .version
 unfolding versionFits

@@ -87,15 +87,29 @@ isAck (answer.Beat c n) = false
 isAck (answer.Accepted c) = false
 isAck (answer.Delivered c v n) = false
 
--- document 01's number of a refusal; 0 of any other answer
+-- document 01's number and values of an answer: a refusal's number, what Short needs in all, "the bytes consumed (0 if Short or refused)", the
+-- bytes at the front of out (a reply's or a delivery's) and a delivery's service; 0 where an answer has none
+pub record Values : Type 0 where
+  pub refusal : ℕ
+  pub needed : ℕ
+  pub consumed : ℕ
+  pub written : ℕ
+  pub service : ℕ
+
+abbrev values : ℕ → ℕ → ℕ → ℕ → ℕ → Values
+values refusal needed consumed written service = record { refusal = refusal; needed = needed; consumed = consumed; written = written; service = service }
+
+abbrev pub valuesOf : Answer → Values
+valuesOf (answer.Short n) = values 0 n 0 0 0
+valuesOf (answer.Refused n) = values n 0 0 0 0
+valuesOf (answer.Acked c n) = values 0 0 c n 0
+valuesOf (answer.Nacked c n) = values 0 0 c n 0
+valuesOf (answer.Beat c n) = values 0 0 c n 0
+valuesOf (answer.Accepted c) = values 0 0 c 0 0
+valuesOf (answer.Delivered c v n) = values 0 0 c n (v .0)
+
 abbrev pub refusalOf : Answer → ℕ
-refusalOf (answer.Short n) = 0
-refusalOf (answer.Refused n) = n
-refusalOf (answer.Acked c n) = 0
-refusalOf (answer.Nacked c n) = 0
-refusalOf (answer.Beat c n) = 0
-refusalOf (answer.Accepted c) = 0
-refusalOf (answer.Delivered c v n) = 0
+refusalOf a = valuesOf a .refusal
 
 -- ---- the book
 
