@@ -21,3 +21,4 @@ pub mod Demand
 pub mod Refusals
 pub mod Replies
 pub mod Figures
+pub mod ActualCalls
