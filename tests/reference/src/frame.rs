@@ -6,15 +6,15 @@ use crate::refusal::Refusal;
 ///
 /// The three number types here are structs because document 01 says they
 /// "must never be exchangeable by mistake".
-#[derive(Clone, Copy, Debug, PartialEq, Eq)]
+#[derive(Clone, Copy, Debug, PartialEq, Eq, PartialOrd, Ord)]
 pub struct SessionId(pub u8);
 
 /// A service's number, listed or not.
-#[derive(Clone, Copy, Debug, PartialEq, Eq)]
+#[derive(Clone, Copy, Debug, PartialEq, Eq, PartialOrd, Ord)]
 pub struct ServiceType(pub u8);
 
 /// A message's number.
-#[derive(Clone, Copy, Debug, PartialEq, Eq)]
+#[derive(Clone, Copy, Debug, PartialEq, Eq, PartialOrd, Ord)]
 pub struct MessageId(pub u32);
 
 /// "Frame types: 0 control, 1 single, 2 first, 3 consecutive."

@@ -7,13 +7,20 @@
 //!
 //! - [`frame`], [`sender`], [`payload`], [`refusal`]: the rules of the protocol.
 //! - [`room`]: the blocks that open messages share.
+//! - [`link`]: sessions, services and messages over that room.
 //! - [`text`]: hexadecimal and decimal words.
 //! - [`driver`]: script lines in, answer lines out.
+//! - [`bench`]: the bench program.
+//! - [`census`]: which answers a script reaches.
 //! - [`generate`]: scripts to compare two programs on.
 
+pub mod bench;
+pub mod census;
 pub mod driver;
 pub mod frame;
 pub mod generate;
+mod lines;
+pub mod link;
 pub mod payload;
 pub mod refusal;
 pub mod room;

@@ -19,11 +19,38 @@ pub enum Refusal {
     Size = 6,
     /// "settings, offer or chunk (0 or above largest) out of range"
     OutOfRange = 10,
-    /// "too small for the bytes due"
+    /// "out under 128 bytes (link), or too small for the bytes due"
     OutTooSmall = 11,
+    /// "session not open (0 never is; opening excepted)"
+    SessionNotOpen = 12,
+    /// "encryption flag set"
+    Encrypted = 13,
+    /// "version not the settled one; unsettled: above min(M, 4)"
+    OtherVersion = 14,
+    /// "settled at 5, data size above mtu minus 12"
+    AboveMtu = 15,
+    /// "type 1 to 3 on a service not running; 00 always runs, 0F from frame version 2"
+    ServiceNotRunning = 16,
+    /// "control info other than 00, 01, 04, FF; or 00, FF not on service 00
+    /// or not settled at 3 or more"
+    ControlNotTaken = 17,
     /// "total 0 or above 65,536, count 0, above 256 or above total;
     /// sender: likewise, if more than one chunk"
     TotalOrCount = 18,
+    /// "message already open"
+    AlreadyOpen = 19,
+    /// "held + need above C"
+    AboveCap = 20,
+    /// "sum of larger-of-held-and-G above 256"
+    AboveRoom = 21,
+    /// "no message open"
+    NoMessageOpen = 22,
+    /// "other message id"
+    OtherMessage = 23,
+    /// "frame number wrong; message dropped"
+    FrameNumber = 24,
+    /// "sizes wrong; message dropped"
+    FrameSizes = 25,
     /// "sender: k past the last frame"
     PastLastFrame = 26,
     /// "document length not the lent length, or not 5 to 1,024"

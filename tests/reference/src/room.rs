@@ -30,7 +30,7 @@ pub fn needed(total: usize) -> usize {
 }
 
 /// A message that is being put together.
-#[derive(Default)]
+#[derive(Clone, Default)]
 struct Message {
     /// In rising order.
     blocks: Vec<BlockNumber>,
@@ -46,14 +46,16 @@ impl Message {
     }
 }
 
-/// The pool, the messages in it, and what is free.
-pub struct Room {
+/// The pool, the messages in it, and what is free. A message goes by the
+/// name of its owner; the link names it by session and service.
+#[derive(Clone)]
+pub struct Room<Name = Owner> {
     pool: Vec<u8>,
     free: BTreeSet<BlockNumber>,
-    messages: BTreeMap<Owner, Message>,
+    messages: BTreeMap<Name, Message>,
 }
 
-impl Room {
+impl<Name: Ord> Room<Name> {
     /// A room with every block free. The pool may hold any bytes: taking
     /// blocks "writes nothing", so what was there stays until it is appended over.
     pub fn over(pool: Vec<u8>) -> Self {
@@ -70,7 +72,7 @@ impl Room {
     ///
     /// No message takes blocks twice in document 01. If one does, its blocks
     /// are ordered anew, as their numbers alone tell the order.
-    pub fn claim(&mut self, owner: Owner, count: usize) {
+    pub fn claim(&mut self, owner: Name, count: usize) {
         let blocks = &mut self.messages.entry(owner).or_default().blocks;
         for _ in 0..count {
             let Some(lowest) = self.free.pop_first() else {
@@ -83,7 +85,7 @@ impl Room {
 
     /// The payload goes "right behind the bytes already there; no other pool
     /// byte changes". Answers how many bytes there were blocks for.
-    pub fn append(&mut self, owner: Owner, payload: &[u8]) -> usize {
+    pub fn append(&mut self, owner: Name, payload: &[u8]) -> usize {
         let Some(message) = self.messages.get_mut(&owner) else {
             return 0;
         };
@@ -101,7 +103,7 @@ impl Room {
     /// Writes the first `due` bytes of the owner's blocks "to the front of
     /// out, following its blocks one after another", as far as there are
     /// blocks and room in `out`. "Bytes of out past those written stay."
-    pub fn deliver(&self, owner: Owner, due: usize, out: &mut [u8]) {
+    pub fn deliver(&self, owner: Name, due: usize, out: &mut [u8]) {
         let Some(message) = self.messages.get(&owner) else {
             return;
         };
@@ -114,14 +116,14 @@ impl Room {
     }
 
     /// All blocks of the owner are free again; their bytes stay.
-    pub fn free(&mut self, owner: Owner) {
+    pub fn free(&mut self, owner: Name) {
         if let Some(message) = self.messages.remove(&owner) {
             self.free.extend(message.blocks);
         }
     }
 
     /// The owner's blocks, in rising order.
-    pub fn blocks(&self, owner: Owner) -> &[BlockNumber] {
+    pub fn blocks(&self, owner: Name) -> &[BlockNumber] {
         match self.messages.get(&owner) {
             Some(message) => &message.blocks,
             None => &[],
@@ -129,7 +131,7 @@ impl Room {
     }
 
     /// The bytes that the owner's message has so far.
-    pub fn length(&self, owner: Owner) -> usize {
+    pub fn length(&self, owner: Name) -> usize {
         self.messages
             .get(&owner)
             .map_or(0, |message| message.length)

@@ -99,10 +99,39 @@ pub fn push_number(number: u64, line: &mut Vec<u8>) {
     line.extend_from_slice(&digits[start..]);
 }
 
+/// CHECK's factor, and how many bytes are taken at a time.
+const FACTOR: u32 = 31;
+const STEP: usize = 64;
+
+/// What the bytes of one step are worth: the last one 1, those before it
+/// 31, 31 * 31 and so on.
+static WORTHS: [u32; STEP] = worths();
+
+const fn worths() -> [u32; STEP] {
+    let mut worths = [1u32; STEP];
+    let mut place = STEP - 1;
+    while place > 0 {
+        worths[place - 1] = worths[place].wrapping_mul(FACTOR);
+        place -= 1;
+    }
+    worths
+}
+
 /// CHECK: "x := 7 and then x := (x * 31 + b[i]) mod 2^32 for each byte".
+///
+/// A pool is checked for every line, so that whole steps are taken at once:
+/// x times 31 to the power of STEP, plus the bytes times their worths.
 pub fn check(buffer: &[u8]) -> u32 {
-    buffer.iter().fold(7u32, |x, &byte| {
-        x.wrapping_mul(31).wrapping_add(u32::from(byte))
+    let step_factor = FACTOR.wrapping_mul(WORTHS[0]);
+    let (steps, rest) = buffer.as_chunks::<STEP>();
+    let x = steps.iter().fold(7u32, |x, step| {
+        let worth = step.iter().zip(&WORTHS).fold(0u32, |sum, (&byte, &worth)| {
+            sum.wrapping_add(worth.wrapping_mul(u32::from(byte)))
+        });
+        x.wrapping_mul(step_factor).wrapping_add(worth)
+    });
+    rest.iter().fold(x, |x, &byte| {
+        x.wrapping_mul(FACTOR).wrapping_add(u32::from(byte))
     })
 }
 
@@ -190,10 +219,11 @@ mod tests {
         assert_eq!(check(&[]), 7);
         assert_eq!(check(&[1]), 7 * 31 + 1);
         assert_eq!(check(&[0xee, 0xee]), (7 * 31 + 0xee) * 31 + 0xee);
+        let bytes: Vec<u8> = (0..1_000u32).map(|i| (i * i + 3) as u8).collect();
         let mut x = 7u64;
-        for _ in 0..1000 {
-            x = (x * 31 + 0xee) % (1 << 32);
+        for (index, &byte) in bytes.iter().enumerate() {
+            assert_eq!(u64::from(check(&bytes[..index])), x);
+            x = (x * 31 + u64::from(byte)) % (1 << 32);
         }
-        assert_eq!(u64::from(check(&[0xee; 1000])), x);
     }
 }

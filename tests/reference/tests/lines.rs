@@ -110,7 +110,8 @@ fn what_cannot_be_read_is_answered_with_a_question_mark() {
         "payload 0",
         "payload 00 00",
         "payload - -",
-        "new 5 4 1 1500",
+        "new 5 4 1",
+        "new 5 4 1 1500 0",
         "call 1 1 1 128 -",
         "write 1 2 1 7 0 1 1 7 10 aa",
         "write 256 0 1 7 0 1 1 7 10 aa",
@@ -154,7 +155,13 @@ fn lines_are_read_up_to_300000_bytes() {
 
 #[test]
 fn scripts_depend_on_the_seed_alone() {
-    for form in [Form::All, Form::Frames, Form::Payloads] {
+    for form in [
+        Form::All,
+        Form::Frames,
+        Form::Payloads,
+        Form::Calls,
+        Form::Bench,
+    ] {
         let long = script(form, 7, 2_000);
         assert_eq!(long, script(form, 7, 2_000));
         assert_ne!(long, script(form, 8, 2_000));
@@ -192,6 +199,7 @@ fn scripts_reach_every_answer() {
         ("write", "B,R 1,R 2,R 3,R 4,R 5,R 6,R 11,?"),
         ("send", "B,R 1,R 3,R 10,R 11,R 18,R 26,?"),
         ("payload", "T,R 30,R 31,R 32,R 33,R 34,?"),
+        // `call` joins with CALLS_SERVED; until then tests/calls.rs has its census
     ] {
         for answer in answers.split(',') {
             let times = kinds.get(&(command.into(), answer.into()));

@@ -1,11 +1,11 @@
-//! Prints a script: `generate [--frames | --payloads] SEED LINES`.
+//! Prints a script: `generate [--frames | --payloads | --calls | --bench] SEED LINES`.
 
 use std::io::{self, BufWriter};
 use std::process::ExitCode;
 
 use reference::generate::{write_script, Form};
 
-const USAGE: &str = "usage: generate [--frames | --payloads] SEED LINES";
+const USAGE: &str = "usage: generate [--frames | --payloads | --calls | --bench] SEED LINES";
 
 fn main() -> ExitCode {
     let Some((form, seed, lines)) = arguments() else {
@@ -29,6 +29,8 @@ fn arguments() -> Option<(Form, u64, u64)> {
     let (form, numbers) = match words.as_slice() {
         [option, numbers @ ..] if option == "--frames" => (Form::Frames, numbers),
         [option, numbers @ ..] if option == "--payloads" => (Form::Payloads, numbers),
+        [option, numbers @ ..] if option == "--calls" => (Form::Calls, numbers),
+        [option, numbers @ ..] if option == "--bench" => (Form::Bench, numbers),
         numbers => (Form::All, numbers),
     };
     let [seed, lines] = numbers else { return None };

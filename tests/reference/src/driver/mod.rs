@@ -4,9 +4,10 @@
 //! words, makes one call and appends the answer; it answers None, having
 //! appended nothing, if the words cannot be read. To serve another command,
 //! add its module and its line in [`Driver::command`]; what lives from line
-//! to line (the link and its pool, for `new` and `call`) goes into [`Driver`].
+//! to line (the link and its pool) is in [`Driver`].
 
-mod lines;
+mod call;
+mod new;
 mod payload;
 mod read;
 mod send;
@@ -15,10 +16,14 @@ mod write;
 
 use std::io::{self, BufRead, Write};
 
+use crate::lines::Lines;
+use crate::link::Link;
 use crate::refusal::Refusal;
 use crate::text;
-use lines::Lines;
 use words::Words;
+
+/// "The line buffer holds at least 300,000 bytes": the least that is allowed.
+pub const LARGEST_LINE: usize = 300_000;
 
 /// The answer to a line that cannot be read as a command.
 const UNREADABLE: &[u8] = b"?";
@@ -30,6 +35,9 @@ const OUT_FILL: u8 = 0xee;
 #[derive(Default)]
 pub struct Driver {
     buffers: Buffers,
+    /// The link of the last `new`, with its pool; None before a first one
+    /// that answered `ok`, and after one that answered `R 10`.
+    link: Option<Link>,
 }
 
 /// Kept only to spare allocations; no command sees what another left there.
@@ -56,7 +64,7 @@ impl Driver {
         if line.is_empty() || line[0] == b'#' {
             return false;
         }
-        let readable = line.len() <= lines::LARGEST_LINE;
+        let readable = line.len() <= LARGEST_LINE;
         if !readable || self.command(line, reply).is_none() {
             reply.extend_from_slice(UNREADABLE);
         }
@@ -71,16 +79,22 @@ impl Driver {
             b"write" => write::answer(&mut words, buffers, reply),
             b"send" => send::answer(&mut words, buffers, reply),
             b"payload" => payload::answer(&mut words, buffers, reply),
-            // `new` and `call` are not served yet.
+            b"new" => new::answer(&mut words, &mut self.link, reply),
+            b"call" => call::answer(&mut words, buffers, self.link.as_mut(), reply),
             _ => None,
         }
+    }
+
+    /// The link that `call` lines talk to.
+    pub fn link(&self) -> Option<&Link> {
+        self.link.as_ref()
     }
 }
 
 /// Answers all lines of `input` until it ends.
 pub fn serve(input: impl BufRead, mut output: impl Write) -> io::Result<()> {
     let mut driver = Driver::default();
-    let mut lines = Lines::of(input);
+    let mut lines = Lines::of(input, LARGEST_LINE);
     let mut reply = Vec::new();
     while let Some(line) = lines.next_line()? {
         reply.clear();

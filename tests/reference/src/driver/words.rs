@@ -43,6 +43,12 @@ impl<'a> Words<'a> {
         Some(number == 1)
     }
 
+    /// A number of 16 bits.
+    pub fn bits16(&mut self) -> Option<u16> {
+        let number = text::parse_number(self.next_word()?, u32::from(u16::MAX))?;
+        u16::try_from(number).ok()
+    }
+
     /// A number of 32 bits.
     pub fn bits32(&mut self) -> Option<u32> {
         text::parse_number(self.next_word()?, u32::MAX)

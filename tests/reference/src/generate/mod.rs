@@ -2,8 +2,10 @@
 //!
 //! A script depends on the seed alone, and a longer script begins with the
 //! shorter one of the same seed. To try another command, add a module with
-//! a `line` function like those here and its weight in [`any_line`].
+//! a `line` function like those here and its weight in [`command_line`].
 
+mod bench_lines;
+mod call_lines;
 mod draft;
 mod elements;
 mod headers;
@@ -12,12 +14,15 @@ mod payload_lines;
 pub mod random;
 mod read_lines;
 mod send_lines;
+mod talk;
 mod values;
 mod write_lines;
 
 use std::io::{self, Write};
 
 use crate::text;
+use bench_lines::BenchLines;
+use call_lines::Calls;
 use random::Random;
 
 /// What a script holds.
@@ -29,38 +34,79 @@ pub enum Form {
     Frames,
     /// Readable `payload` lines only.
     Payloads,
+    /// Readable `new` and `call` lines only.
+    Calls,
+    /// Lines for the bench program.
+    Bench,
 }
 
 /// Writes exactly `lines` lines.
 pub fn write_script(form: Form, seed: u64, lines: u64, mut out: impl Write) -> io::Result<()> {
     let mut random = Random::of(seed);
-    let mut waiting = Vec::new();
+    let mut script = Script::of(&mut random);
     for _ in 0..lines {
-        let mut line = match form {
-            Form::All => any_line(&mut random),
-            Form::Frames => frame_line(&mut random),
-            Form::Payloads => payload_line(&mut random, &mut waiting),
-        };
+        let mut line = script.line(form, &mut random);
         line.push(b'\n');
         out.write_all(&line)?;
     }
     out.flush()
 }
 
-fn any_line(random: &mut Random) -> Vec<u8> {
-    match random.weighted(&[85, 15]) {
-        0 => command_line(random),
-        _ => odd_lines::line(random),
+/// What lives from one line to the next.
+struct Script {
+    /// The lines of a family of payloads that are still to come.
+    waiting: Vec<Vec<u8>>,
+    calls: Calls,
+    bench: BenchLines,
+}
+
+impl Script {
+    fn of(random: &mut Random) -> Self {
+        Script {
+            waiting: Vec::new(),
+            calls: Calls::new(random),
+            bench: BenchLines::new(random),
+        }
+    }
+
+    fn line(&mut self, form: Form, random: &mut Random) -> Vec<u8> {
+        match form {
+            Form::All => {
+                let line = any_line(random, &mut self.calls);
+                self.calls.note(&line);
+                line
+            }
+            Form::Calls => {
+                let line = self.calls.line(random);
+                self.calls.note(&line);
+                line
+            }
+            Form::Frames => frame_line(random),
+            Form::Payloads => payload_line(random, &mut self.waiting),
+            Form::Bench => self.bench.line(random),
+        }
     }
 }
 
-/// A readable line of any command.
-fn command_line(random: &mut Random) -> Vec<u8> {
-    match random.below(4) {
+fn any_line(random: &mut Random, calls: &mut Calls) -> Vec<u8> {
+    match random.weighted(&[85, 15]) {
+        0 => command_line(random, calls),
+        _ => odd_lines::line(random, calls),
+    }
+}
+
+/// The driver answers `?` to `new` and `call` until it serves them; until then
+/// the mixture has none, and `--calls` is for the reference alone.
+const CALLS_SERVED: bool = false;
+
+/// A readable line of any command that the driver serves.
+fn command_line(random: &mut Random, calls: &mut Calls) -> Vec<u8> {
+    match random.below(if CALLS_SERVED { 5 } else { 4 }) {
         0 => read_lines::line(random),
         1 => write_lines::line(random),
         2 => send_lines::line(random),
-        _ => payload_lines::line(random),
+        3 => payload_lines::line(random),
+        _ => calls.line(random),
     }
 }
 

@@ -4,6 +4,7 @@
 //! Each is a usual line with one thing changed, so that nothing else is the
 //! reason for its answer.
 
+use super::call_lines::Calls;
 use super::command_line;
 use super::random::Random;
 use super::values::LARGEST_OUT;
@@ -12,40 +13,70 @@ use super::values::LARGEST_OUT;
 const LONGEST_LINE: usize = 300_000;
 
 const BYTE: u64 = u8::MAX as u64;
+const BITS16: u64 = u16::MAX as u64;
 const BITS32: u64 = u32::MAX as u64;
 const OUT: u64 = LARGEST_OUT as u64;
 
-/// The largest number in each word behind `write` and `send`, but for HEX.
+/// The largest number in each word behind `write`, `send` and `call`, but for
+/// HEX. DRIVER.md gives none for `new`.
 const WRITE_LARGEST: [u64; 9] = [BYTE, 1, BYTE, BYTE, BYTE, BYTE, BITS32, BITS32, OUT];
 const SEND_LARGEST: [u64; 7] = [BYTE, BYTE, BYTE, BITS32, BITS32, BITS32, OUT];
+const CALL_LARGEST: [u64; 4] = [BITS16, BITS16, BITS32, OUT];
 
-pub fn line(random: &mut Random) -> Vec<u8> {
+/// First words that are no command.
+const NO_COMMANDS: [&[u8]; 23] = [
+    b"reads",
+    b"rea",
+    b"READ",
+    b"Read",
+    b"writ",
+    b"writes",
+    b"Write",
+    b"sen",
+    b"sends",
+    b"sEnd",
+    b"payloa",
+    b"payloads",
+    b"Payload",
+    b"cal",
+    b"calls",
+    b"Call",
+    b"news",
+    b"New",
+    b"?",
+    b"-",
+    b"0",
+    b"read\0",
+    b"\xef\xbb\xbfread",
+];
+
+pub fn line(random: &mut Random, calls: &mut Calls) -> Vec<u8> {
     match random.weighted(&[50, 100, 80, 120, 140, 180, 80, 140, 60, 2]) {
         0 => Vec::new(),
-        1 => comment(random),
-        2 => other_command(random),
-        3 => other_word_count(random),
-        4 => other_spaces(random),
-        5 => other_number(random),
-        6 => zeros_in_front(random),
-        7 => other_hex(random),
-        8 => stray_bytes(random),
+        1 => comment(random, calls),
+        2 => other_command(random, calls),
+        3 => other_word_count(random, calls),
+        4 => other_spaces(random, calls),
+        5 => other_number(random, calls),
+        6 => zeros_in_front(random, calls),
+        7 => other_hex(random, calls),
+        8 => stray_bytes(random, calls),
         _ => near_line_limit(random),
     }
 }
 
 /// A readable line of usual length.
-fn short_line(random: &mut Random) -> Vec<u8> {
+fn short_line(random: &mut Random, calls: &mut Calls) -> Vec<u8> {
     loop {
-        let line = command_line(random);
+        let line = command_line(random, calls);
         if line.len() < 400 {
             return line;
         }
     }
 }
 
-fn short_words(random: &mut Random) -> Vec<Vec<u8>> {
-    let line = short_line(random);
+fn short_words(random: &mut Random, calls: &mut Calls) -> Vec<Vec<u8>> {
+    let line = short_line(random, calls);
     line.split(|&byte| byte == b' ').map(Vec::from).collect()
 }
 
@@ -53,40 +84,20 @@ fn join(words: &[Vec<u8>]) -> Vec<u8> {
     words.join(&b' ')
 }
 
-fn comment(random: &mut Random) -> Vec<u8> {
+fn comment(random: &mut Random, calls: &mut Calls) -> Vec<u8> {
     match random.below(4) {
         0 => b"#".to_vec(),
-        1 => [b"#".to_vec(), short_line(random)].concat(),
-        2 => [b"# ".to_vec(), short_line(random)].concat(),
+        1 => [b"#".to_vec(), short_line(random, calls)].concat(),
+        2 => [b"# ".to_vec(), short_line(random, calls)].concat(),
         // A space in front: this is no comment.
-        _ => [b" #".to_vec(), short_line(random)].concat(),
+        _ => [b" #".to_vec(), short_line(random, calls)].concat(),
     }
 }
 
 /// The first word is no command, or a command without its words.
-fn other_command(random: &mut Random) -> Vec<u8> {
-    let mut words = short_words(random);
-    let first: &[u8] = random.pick(&[
-        &b"reads"[..],
-        b"rea",
-        b"READ",
-        b"Read",
-        b"writ",
-        b"writes",
-        b"Write",
-        b"sen",
-        b"sends",
-        b"sEnd",
-        b"payloa",
-        b"payloads",
-        b"Payload",
-        b"?",
-        b"-",
-        b"0",
-        b"read\0",
-        b"\xef\xbb\xbfread",
-    ]);
-    words[0] = first.to_vec();
+fn other_command(random: &mut Random, calls: &mut Calls) -> Vec<u8> {
+    let mut words = short_words(random, calls);
+    words[0] = random.pick(&NO_COMMANDS).to_vec();
     if random.coin() {
         return join(&words);
     }
@@ -105,8 +116,8 @@ fn other_command(random: &mut Random) -> Vec<u8> {
 
 /// A word missing, doubled or added. (One of the numbers of `write` or `send`
 /// missing leaves HEX in a number's place or too few words.)
-fn other_word_count(random: &mut Random) -> Vec<u8> {
-    let mut words = short_words(random);
+fn other_word_count(random: &mut Random, calls: &mut Calls) -> Vec<u8> {
+    let mut words = short_words(random, calls);
     let place = random.between(1, words.len() - 1);
     match random.below(5) {
         0 => drop(words.pop()),
@@ -118,8 +129,8 @@ fn other_word_count(random: &mut Random) -> Vec<u8> {
     join(&words)
 }
 
-fn other_spaces(random: &mut Random) -> Vec<u8> {
-    let mut line = short_line(random);
+fn other_spaces(random: &mut Random, calls: &mut Calls) -> Vec<u8> {
+    let mut line = short_line(random, calls);
     let spaces: Vec<usize> = (0..line.len()).filter(|&i| line[i] == b' ').collect();
     let space = random.pick(&spaces);
     match random.below(6) {
@@ -133,27 +144,25 @@ fn other_spaces(random: &mut Random) -> Vec<u8> {
     line
 }
 
-/// A `write` or `send` line cut into words, and one of its numbers' places
+/// A `write`, `send` or `call` line cut into words, and one of its numbers' places
 /// with the largest number there.
-fn number_place(random: &mut Random) -> (Vec<Vec<u8>>, usize, u64) {
-    let words = loop {
-        let words = short_words(random);
-        if words[0] == b"write" || words[0] == b"send" {
-            break words;
+fn number_place(random: &mut Random, calls: &mut Calls) -> (Vec<Vec<u8>>, usize, u64) {
+    let (words, largest): (_, &[u64]) = loop {
+        let words = short_words(random, calls);
+        match &words[0][..] {
+            b"write" => break (words, &WRITE_LARGEST),
+            b"send" => break (words, &SEND_LARGEST),
+            b"call" => break (words, &CALL_LARGEST),
+            _ => (),
         }
-    };
-    let largest: &[u64] = if words[0] == b"write" {
-        &WRITE_LARGEST
-    } else {
-        &SEND_LARGEST
     };
     let place = random.below(largest.len());
     (words, place + 1, largest[place])
 }
 
 /// A number too large, or no number.
-fn other_number(random: &mut Random) -> Vec<u8> {
-    let (mut words, place, largest) = number_place(random);
+fn other_number(random: &mut Random, calls: &mut Calls) -> Vec<u8> {
+    let (mut words, place, largest) = number_place(random, calls);
     words[place] = if random.coin() {
         too_large(random, largest)
     } else {
@@ -197,16 +206,16 @@ fn no_number(random: &mut Random, number: &[u8]) -> Vec<u8> {
 }
 
 /// Still a number of the same value: DRIVER.md asks for decimal, no more.
-fn zeros_in_front(random: &mut Random) -> Vec<u8> {
-    let (mut words, place, _) = number_place(random);
+fn zeros_in_front(random: &mut Random, calls: &mut Calls) -> Vec<u8> {
+    let (mut words, place, _) = number_place(random, calls);
     let count = random.pick(&[1, 1, 2, 3, 9, 10, 19, 20, 40]);
     words[place].splice(0..0, vec![b'0'; count]);
     join(&words)
 }
 
 /// The last word is no HEX, or it is `-`.
-fn other_hex(random: &mut Random) -> Vec<u8> {
-    let mut words = short_words(random);
+fn other_hex(random: &mut Random, calls: &mut Calls) -> Vec<u8> {
+    let mut words = short_words(random, calls);
     let mut hex = words.pop().unwrap_or_default();
     let place = random.below(hex.len());
     match random.below(9) {
@@ -226,8 +235,8 @@ fn other_hex(random: &mut Random) -> Vec<u8> {
 
 /// Bytes that no readable line holds: a carriage return or a zero at the
 /// end, one byte changed to any other, or nothing but random bytes.
-fn stray_bytes(random: &mut Random) -> Vec<u8> {
-    let mut line = short_line(random);
+fn stray_bytes(random: &mut Random, calls: &mut Calls) -> Vec<u8> {
+    let mut line = short_line(random, calls);
     let place = random.below(line.len());
     match random.below(5) {
         0 => line.push(b'\r'),
@@ -253,6 +262,7 @@ fn near_line_limit(random: &mut Random) -> Vec<u8> {
         "write 5 0 1 7 0 1 9 1 99 ",
         "send 5 7 1 7 9 0 99 ",
         "payload ",
+        "call 1 1 1 128 510700ff00020000",
     ]);
     // The longest line with an even number of digits.
     let longest_even = LONGEST_LINE - (LONGEST_LINE - front.len()) % 2;

@@ -54,6 +54,17 @@ pub fn family(random: &mut Random) -> Vec<Vec<u8>> {
     payloads.iter().map(|payload| written(payload)).collect()
 }
 
+/// A payload of any kind: one of a family's, as bytes.
+pub fn any_payload(random: &mut Random) -> Vec<u8> {
+    let draft = payload(random);
+    match random.below(4) {
+        0 => draft.bytes,
+        1 => damaged(random, &draft, Mended::All),
+        2 => damaged(random, &draft, Mended::Outer),
+        _ => tiny(random),
+    }
+}
+
 fn written(payload: &[u8]) -> Vec<u8> {
     let mut line = Line::of("payload");
     line.bytes(payload);

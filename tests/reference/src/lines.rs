@@ -1,38 +1,38 @@
-//! The lines of a script, of any bytes and any length.
+//! The lines of a script, of any bytes and any length, in constant memory.
 
 use std::io::{self, BufRead, Read};
-
-/// "The line buffer holds at least 300,000 bytes": the least that is allowed.
-pub const LARGEST_LINE: usize = 300_000;
 
 /// Reads lines one after another into the same buffer.
 pub struct Lines<R> {
     input: R,
     line: Vec<u8>,
+    largest: usize,
 }
 
 impl<R: BufRead> Lines<R> {
-    pub fn of(input: R) -> Self {
+    /// The lines of `input`; whoever asks reads none longer than `largest`.
+    pub fn of(input: R, largest: usize) -> Self {
         Lines {
             input,
             line: Vec::new(),
+            largest,
         }
     }
 
     /// The next line without its newline, or None at the end of the input.
     ///
-    /// Of a line longer than [`LARGEST_LINE`] only the first bytes are
+    /// Of a line longer than the largest only the first bytes are
     /// answered, one more than that, so that it is seen to be too long.
     pub fn next_line(&mut self) -> io::Result<Option<&[u8]>> {
         self.line.clear();
-        let limit = LARGEST_LINE as u64 + 1;
+        let limit = self.largest as u64 + 1;
         let mut front = self.input.by_ref().take(limit);
         if front.read_until(b'\n', &mut self.line)? == 0 {
             return Ok(None);
         }
         if self.line.last() == Some(&b'\n') {
             self.line.pop();
-        } else if self.line.len() > LARGEST_LINE {
+        } else if self.line.len() > self.largest {
             self.input.skip_until(b'\n')?;
         }
         Ok(Some(&self.line))
@@ -43,8 +43,10 @@ impl<R: BufRead> Lines<R> {
 mod tests {
     use super::*;
 
+    const LARGEST_LINE: usize = 300_000;
+
     fn lengths(input: &[u8]) -> Vec<usize> {
-        let mut lines = Lines::of(input);
+        let mut lines = Lines::of(input, LARGEST_LINE);
         let mut lengths = Vec::new();
         while let Some(line) = lines.next_line().unwrap() {
             lengths.push(line.len());

@@ -1,0 +1,153 @@
+//! Single frames and messages in parts (document 01, "Messages").
+
+use super::{Effect, Link, OpenMessage, Place, Session, LARGEST_CAP};
+use crate::frame::{Frame, Header, SessionId};
+use crate::refusal::Refusal;
+use crate::room;
+use crate::sender;
+
+impl Link {
+    /// "A single frame delivers its payload likewise."
+    pub(super) fn single(&mut self, frame: &Frame, out: &mut [u8]) -> Result<Effect, Refusal> {
+        let header = &frame.header;
+        let length = frame.payload.len();
+        let front = out.get_mut(..length).ok_or(Refusal::OutTooSmall)?;
+        front.copy_from_slice(frame.payload);
+        self.open_session(header.session).settle(header.version);
+        Ok(Effect::Delivery(header.service, length))
+    }
+
+    /// A First Frame: 18 to 21, then it takes its blocks "and writes nothing".
+    pub(super) fn first(&mut self, frame: &Frame) -> Result<Effect, Refusal> {
+        let header = &frame.header;
+        let (total, count) = total_and_count(frame.payload);
+        sender::check_total(total, count)?;
+        let session = &self.sessions[&header.session];
+        if session.message(header.service).is_some() {
+            return Err(Refusal::AlreadyOpen);
+        }
+        let need = room::needed(total);
+        self.admit(header.session, need)?;
+        self.room.claim(place_of(header), need);
+        let session = self.open_session(header.session);
+        session.settle(header.version);
+        let message = OpenMessage {
+            id: header.id,
+            total,
+            count,
+            to_come: count,
+            missing: total,
+        };
+        session.put_message(header.service, message);
+        Ok(Effect::Silent)
+    }
+
+    /// "admitted if held + need ≤ C and the state rules hold after"
+    fn admit(&self, id: SessionId, need: usize) -> Result<(), Refusal> {
+        let session = &self.sessions[&id];
+        let held = self.held(id);
+        if held + need > session.cap() {
+            return Err(Refusal::AboveCap);
+        }
+        let before = held.max(session.guarantee());
+        let after = (held + need).max(session.guarantee());
+        if self.promised() - before + after > usize::from(LARGEST_CAP) {
+            return Err(Refusal::AboveRoom);
+        }
+        Ok(())
+    }
+
+    /// A consecutive frame: 22 to 25, for the last one 11, then its payload
+    /// "goes to the message's blocks".
+    pub(super) fn consecutive(&mut self, frame: &Frame, out: &mut [u8]) -> Result<Effect, Refusal> {
+        let header = &frame.header;
+        let place = place_of(header);
+        let session = &self.sessions[&header.session];
+        let message = *session
+            .message(header.service)
+            .ok_or(Refusal::NoMessageOpen)?;
+        if header.id != message.id {
+            return Err(Refusal::OtherMessage);
+        }
+        let after = match after_frame(&message, header.info, frame.payload.len()) {
+            Ok(after) => after,
+            Err(refusal) => {
+                // 24 and 25: "message dropped"; the pool's bytes stay.
+                self.drop_message(place);
+                return Err(refusal);
+            }
+        };
+        if after.to_come > 0 {
+            self.room.append(place, frame.payload);
+            self.open_session(header.session)
+                .put_message(header.service, after);
+            return Ok(Effect::Silent);
+        }
+        if out.len() < message.total {
+            return Err(Refusal::OutTooSmall);
+        }
+        // "The last frame writes the message to the front of out [..] and
+        // frees them."
+        self.room.append(place, frame.payload);
+        self.room.deliver(place, message.total, out);
+        self.drop_message(place);
+        Ok(Effect::Delivery(header.service, message.total))
+    }
+
+    /// The message is no longer open, and its blocks are free.
+    pub(super) fn drop_message(&mut self, place: Place) {
+        self.room.free(place);
+        self.open_session(place.session).drop_message(place.service);
+    }
+
+    /// A session that was judged to be open.
+    pub(super) fn open_session(&mut self, id: SessionId) -> &mut Session {
+        self.sessions.get_mut(&id).expect("12 was judged")
+    }
+}
+
+/// The message after one more frame, or 24 or 25.
+fn after_frame(message: &OpenMessage, number: u8, size: usize) -> Result<OpenMessage, Refusal> {
+    let to_come = message.to_come - 1;
+    // "Non-last consecutive frames carry 1, 2, 3 and so on; the last carries
+    // 0." With at most 256 frames the number of a non-last one is a byte.
+    let due = if to_come == 0 {
+        0
+    } else {
+        message.count - to_come
+    };
+    if usize::from(number) != due {
+        return Err(Refusal::FrameNumber);
+    }
+    // "After each frame, bytes still missing must be at least frames still
+    // to come, and 0 when none is."
+    let missing = message
+        .missing
+        .checked_sub(size)
+        .ok_or(Refusal::FrameSizes)?;
+    if missing < to_come || (to_come == 0 && missing != 0) {
+        return Err(Refusal::FrameSizes);
+    }
+    Ok(OpenMessage {
+        to_come,
+        missing,
+        ..*message
+    })
+}
+
+/// "A First Frame (total, then count)", 4 bytes each; the reader gave it 8.
+fn total_and_count(payload: &[u8]) -> (usize, usize) {
+    let number = |bytes: &[u8]| {
+        bytes
+            .iter()
+            .fold(0, |number, &byte| number << 8 | usize::from(byte))
+    };
+    (number(&payload[..4]), number(&payload[4..]))
+}
+
+fn place_of(header: &Header) -> Place {
+    Place {
+        session: header.session,
+        service: header.service,
+    }
+}
