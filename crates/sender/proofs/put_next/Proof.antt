@@ -10,7 +10,7 @@ use Rattle.frame.specs.Message.{frameNumber}
 use Rattle.frame.specs.Write.{putOf}
 use Rattle.frame.proofs.Laws.{largest-range}
 use Rattle.sender.specs.Sender.{headerFor, plan, bytesOf, chunkOf, countOf}
-use Rattle.sender.proofs.Counts.{small-start, small-next, chunk-range, starts, chunk-cut, some-chunk, number-byte}
+use Rattle.sender.proofs.Counts.{small-start, small-end, chunk-range, starts, chunk-cut, some-chunk, number-byte}
 use Rattle.sender.proofs.Laws.{next-fault}
 use borrow.Author.Needs.{needs}
 use Rattle.sender.proofs.put_next.Statement.{statement}
@@ -53,7 +53,7 @@ add-least c =
     let o = a .outgoing in
     let w = chunk-range (o .version) (o .chunk) ((c .before .before .before .before .pre .0) .chunk) in
     let l = largest-range (o .version) in
-    record { fits = small-next _ _ (omega arith) (omega arith) }
+    record { fits = small-end _ _ _ (omega arith) (omega arith) (omega arith) }
 
 -- src/lib.rt:93:9
 least-requires : tie.Need-least-requires
