@@ -3,3 +3,4 @@ pub mod Characters
 pub mod Digits
 pub mod Laws
 mod Cases
+mod Outcomes

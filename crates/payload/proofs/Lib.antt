@@ -11,5 +11,6 @@ pub mod VersionOrder
 pub mod ReplyLaws
 pub mod Cases
 pub mod ReadBack
+mod Outcomes
 mod Tests
 mod Rest

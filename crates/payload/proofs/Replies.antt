@@ -1,5 +1,5 @@
 -- Each element and payload that is written: how many bytes it has, and that it stands in the buffer after its pieces were put there one after
--- another. By `more`, once for each piece. Assumes nothing.
+-- another. By `more`, once for each piece. First document 01's marked payloads, by computation. Assumes nothing.
 use Prim.Native.Nat.{ℕ, _+_, _-_, _≤_, _<_}
 use mathlib.Core.Path.{_≡_, refl, _∙_}
 use mathlib.Core.List.{List, [], _∷_, _++_, append-assoc}
@@ -10,11 +10,32 @@ use Rattle.numbers.specs.Numbers.{bytesLe}
 use Rattle.numbers.proofs.Laws.{length-le}
 use Rattle.payload.specs.Append.{Appended}
 use Rattle.payload.specs.Tags.{protocolVersion, hashId, mtu, rejectedParams}
-use Rattle.payload.specs.Version.{versionText}
+use Rattle.lines.specs.Decimal.{digitsBy, decimalOf}
+use Rattle.payload.specs.Version.{version, versionText}
 use Rattle.payload.specs.Reply.{firstKey, elementHead, document, int32Element, int64Element, stringElement, arrayElement, grantElements, rejectedElement, ackPayload, serviceAckPayload, nakPayload}
 use Rattle.payload.specs.declared.version.Version.{Version}
 use Rattle.payload.proofs.Appends.{more, renamed, kept}
 use Rattle.payload.proofs.Versions.{version-most}
+
+-- "Payload for "5.4.1": `20 00 00 00 02`, "protocolVersion" and 0, `06 00 00 00`, "5.4.1", two zeros: 32 bytes."; the ACK's payload with it, for
+-- the bench's hash 39,027 and mtu 131,084; the two payloads of a NAK
+payloads :
+    document (stringElement protocolVersion (versionText (version 5 4 1)))
+    ∷ ackPayload 39027 131084 (version 5 4 1)
+    ∷ nakPayload protocolVersion ∷ nakPayload hashId ∷ []
+    ≡ (0x20 ∷ 0 ∷ 0 ∷ 0 ∷ 0x02 ∷ 0x70 ∷ 0x72 ∷ 0x6F ∷ 0x74 ∷ 0x6F ∷ 0x63 ∷ 0x6F ∷ 0x6C ∷ 0x56 ∷ 0x65 ∷ 0x72 ∷ 0x73 ∷ 0x69 ∷ 0x6F ∷ 0x6E ∷ 0
+    ∷ 0x06 ∷ 0 ∷ 0 ∷ 0 ∷ 0x35 ∷ 0x2E ∷ 0x34 ∷ 0x2E ∷ 0x31 ∷ 0 ∷ 0 ∷ [])
+    ∷ (0x39 ∷ 0 ∷ 0 ∷ 0 ∷ 0x10 ∷ 0x68 ∷ 0x61 ∷ 0x73 ∷ 0x68 ∷ 0x49 ∷ 0x64 ∷ 0 ∷ 0x73 ∷ 0x98 ∷ 0 ∷ 0
+    ∷ 0x12 ∷ 0x6D ∷ 0x74 ∷ 0x75 ∷ 0 ∷ 0x0C ∷ 0 ∷ 0x02 ∷ 0 ∷ 0 ∷ 0 ∷ 0 ∷ 0
+    ∷ 0x02 ∷ 0x70 ∷ 0x72 ∷ 0x6F ∷ 0x74 ∷ 0x6F ∷ 0x63 ∷ 0x6F ∷ 0x6C ∷ 0x56 ∷ 0x65 ∷ 0x72 ∷ 0x73 ∷ 0x69 ∷ 0x6F ∷ 0x6E ∷ 0
+    ∷ 0x06 ∷ 0 ∷ 0 ∷ 0 ∷ 0x35 ∷ 0x2E ∷ 0x34 ∷ 0x2E ∷ 0x31 ∷ 0 ∷ 0 ∷ [])
+    ∷ (0x31 ∷ 0 ∷ 0 ∷ 0 ∷ 0x04 ∷ 0x72 ∷ 0x65 ∷ 0x6A ∷ 0x65 ∷ 0x63 ∷ 0x74 ∷ 0x65 ∷ 0x64 ∷ 0x50 ∷ 0x61 ∷ 0x72 ∷ 0x61 ∷ 0x6D ∷ 0x73 ∷ 0
+    ∷ 0x1C ∷ 0 ∷ 0 ∷ 0 ∷ 0x02 ∷ 0x30 ∷ 0 ∷ 0x10 ∷ 0 ∷ 0 ∷ 0
+    ∷ 0x70 ∷ 0x72 ∷ 0x6F ∷ 0x74 ∷ 0x6F ∷ 0x63 ∷ 0x6F ∷ 0x6C ∷ 0x56 ∷ 0x65 ∷ 0x72 ∷ 0x73 ∷ 0x69 ∷ 0x6F ∷ 0x6E ∷ 0 ∷ 0 ∷ 0 ∷ [])
+    ∷ (0x28 ∷ 0 ∷ 0 ∷ 0 ∷ 0x04 ∷ 0x72 ∷ 0x65 ∷ 0x6A ∷ 0x65 ∷ 0x63 ∷ 0x74 ∷ 0x65 ∷ 0x64 ∷ 0x50 ∷ 0x61 ∷ 0x72 ∷ 0x61 ∷ 0x6D ∷ 0x73 ∷ 0
+    ∷ 0x13 ∷ 0 ∷ 0 ∷ 0 ∷ 0x02 ∷ 0x30 ∷ 0 ∷ 0x07 ∷ 0 ∷ 0 ∷ 0 ∷ 0x68 ∷ 0x61 ∷ 0x73 ∷ 0x68 ∷ 0x49 ∷ 0x64 ∷ 0 ∷ 0 ∷ 0 ∷ []) ∷ []
+unfolding digitsBy decimalOf bytesLe versionText elementHead document int32Element int64Element stringElement arrayElement grantElements rejectedElement ackPayload nakPayload
+payloads = refl
 
 -- an element's type and key
 module _ (kind : ℕ) (key : List ℕ) where
@@ -67,19 +88,20 @@ module _ (key text : List ℕ) where
   unfolding stringElement
   length-string = simp (length-append, length-le) (omega (arith, length-head 0x02 key))
 
-  pub string-put : {at n₁ n₂ n₃ m : ℕ} {o p₁ p₂ p₃ q : List ℕ} → at + (length key + length text + 7) ≤ length o
-      → Appended at (elementHead 0x02 key) o n₁ p₁ → Appended n₁ (bytesLe 4 (length text + 1)) p₁ n₂ p₂ → Appended n₂ text p₂ n₃ p₃ → Appended n₃ (0 ∷ []) p₃ m q
+  pub string-put : {at n₁ n₂ n₃ m : ℕ} {o p₁ p₂ p₃ q : List ℕ} (size : ℕ) → size ≡ length text + 1 → at + (length key + length text + 7) ≤ length o
+      → Appended at (elementHead 0x02 key) o n₁ p₁ → Appended n₁ (bytesLe 4 size) p₁ n₂ p₂ → Appended n₂ text p₂ n₃ p₃ → Appended n₃ (0 ∷ []) p₃ m q
       → Appended at (stringElement key text) o m q
   unfolding stringElement
-  string-put room e₁ e₂ e₃ e₄ =
+  string-put size z room e₁ e₂ e₃ e₄ =
       let h = elementHead 0x02 key in
       let s = bytesLe 4 (length text + 1) in
       let lh = length-head 0x02 key in
       let ls : length s ≡ 4 = length-le 4 (length text + 1) in
+      let e : Appended _ s _ _ _ = rw z at e₂ in
       let l₂ : length (h ++ s) ≡ length key + 6 = length-append h s ∙ omega arith in
       let l₃ : length ((h ++ s) ++ text) ≡ length key + 6 + length text = length-append (h ++ s) text ∙ omega arith in
       renamed (simp append-assoc)
-      (more ((h ++ s) ++ text) (0 ∷ []) (omega arith) (more (h ++ s) text (omega arith) (more h s (omega arith) e₁ e₂) e₃) e₄)
+      (more ((h ++ s) ++ text) (0 ∷ []) (omega arith) (more (h ++ s) text (omega arith) (more h s (omega arith) e₁ e) e₃) e₄)
 
 -- hashId and mtu
 module _ (h m : ℕ) where
@@ -160,3 +182,8 @@ pub text-back : (b : List ℕ) {o q : List ℕ} {n : ℕ} → Appended 0 b o n q
 text-back b {o} {n = n} e =
     let z : n - 0 ≡ length b = omega arith in
     rw (z, e .puts) (take-at b (drop (0 + length b) o) (length b) refl)
+
+-- "The ACK payload with it has 57; the NAK's 49", for every hash and mtu; the NAK of hashId has 40, a service's ACK 30
+sizes : (h m : ℕ) → length (ackPayload h m (version 5 4 1)) ∷ length (nakPayload protocolVersion) ∷ length (nakPayload hashId) ∷ length (serviceAckPayload h m) ∷ [] ≡ 57 ∷ 49 ∷ 40 ∷ 30 ∷ []
+unfolding digitsBy decimalOf versionText
+sizes h m = rw (length-ack h m (version 5 4 1), length-nak protocolVersion, length-nak hashId, length-service-ack h m)

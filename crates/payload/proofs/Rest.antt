@@ -110,6 +110,10 @@ module _ (nested : Nested) (top : Bool) (s : List ℕ) (at end : ℕ) (t : Tags)
   unfolding elementOf
   element-plain kind tag v h n = rw (h, n)
 
+-- a walk of a document inside another one: its tags do not count
+pub nested-walk : (levels : ℕ) (top : Bool) (s : List ℕ) (at end : ℕ) (t : Tags) {w : Walk} → w ≡ documentOf levels top s at end t → top ≡ false → w ≡ documentOf levels false s at end t
+nested-walk levels top s at end t e f = rw f at e
+
 -- the code's step past a value stands for the definition's walk past it
 module _ (s : List ℕ) (t : Tags) where
   pub plain-stepped : (w : Skip) (tag : Tag) (v : ℕ) → stepped s t (plainStep w tag v) ≡ pastPlain s w t tag v

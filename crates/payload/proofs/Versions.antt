@@ -1,11 +1,13 @@
--- What the code of the version strings asks: the text around a dot, how many digits a part has, and the string put piece by piece.
+-- What the code of the version strings asks: the text around a dot, how many digits a part has, the string put piece by piece, which parts make
+-- a version, and which of two versions comes first.
 -- By the laws of take and drop and the equations of decimal text. Assumes nothing.
 use Prim.Native.Nat.{ℕ, _+_, _-_, _/_, _≤_, _<_}
-use mathlib.Core.Path.{_≡_, ap, _∙_, sym}
+use mathlib.Core.Path.{_≡_, refl, ap, _∙_, sym}
+use mathlib.Core.Bool.{not, _&&_, or-false}
 use mathlib.Core.List.{List, [], _∷_, _++_, append-assoc}
 use native.Mathlib.Omega.{arith}
-use lib.Dec.{ltb}
-use borrow.Author.Tests.{le-ltb, ltb-true, ltb-false}
+use lib.Dec.{eqb, leb, ltb}
+use borrow.Author.Tests.{eq-eqb, ne-eqb, le-leb, le-ltb, ltb-true, ltb-false, leb-true, eqb-false, not-true}
 use lib.ListN.{length, take, drop, length-append, length-drop, drop-of-length-le}
 use lib.Seq.{length-take-le, take-all, take-length}
 use Rattle.bytes.specs.Bytes.{indexOf, slice}
@@ -17,9 +19,12 @@ use Rattle.lines.proofs.Turns.{split}
 use Rattle.lines.proofs.Digits.{width-one, width-step}
 use Rattle.numbers.specs.Bytes.{part, laid}
 use Rattle.payload.specs.Append.{Appended}
-use Rattle.payload.specs.Version.{beforeDot, afterDot, versionText}
+use Rattle.payload.specs.Version.{version, beforeDot, afterDot, versionFrom, versionText, atMost}
 use Rattle.payload.specs.declared.version.Version.{Version}
+use Rattle.payload.specs.declared.version.VersionText.{VersionText}
+use Rattle.payload.specs.declared.version.VersionText.the-variants.{Good, Bad}
 use Rattle.payload.proofs.Appends.{more, renamed, filled}
+use Rattle.payload.proofs.Within.{unless-elim, and-both}
 
 -- the place of the first dot, found in the whole text
 module _ (text : List ℕ) (r : ℕ) (e : r ≡ 0 + indexOf 46 (slice 0 (length text) text)) where
@@ -96,3 +101,39 @@ module _ (v : Version) where
       (more (a ++ (46 ∷ []) ++ b) (46 ∷ []) (simp length-append (omega (arith, length-version)))
       (more (a ++ (46 ∷ [])) b (simp length-append (omega (arith, length-version)))
       (more a (46 ∷ []) (omega (arith, length-version)) e₁ e₂) e₃) e₄) e₅)
+
+-- three parts: good where all are in range, bad where that is refuted
+module _ (a b c : ℕ) where
+  pub parts-good : 1 ≤ a → a ≤ 255 → b ≤ 255 → c ≤ 255 → Good (version a b c) ≡ versionFrom a b c
+  unfolding versionFrom
+  parts-good p q r s =
+      let n : a ≡ 0 → ⊥ = λ z. omega arith in
+      rw (ne-eqb a 0 n, le-leb a 255 q, le-leb b 255 r, le-leb c 255 s)
+
+  pub parts-bad : (1 ≤ a → a ≤ 255 → b ≤ 255 → c ≤ 255 → ⊥) → Bad ≡ versionFrom a b c
+  unfolding versionFrom
+  parts-bad out =
+      unless-elim (λ (t : VersionText). Bad ≡ t) (not (eqb a 0) && (leb a 255 && (leb b 255 && leb c 255))) Bad (Good (version a b c)) (λ e. refl) λ e.
+      let p = and-both (not (eqb a 0)) (leb a 255 && (leb b 255 && leb c 255)) e in
+      let q = and-both (leb a 255) (leb b 255 && leb c 255) (p .1) in
+      let r = and-both (leb b 255) (leb c 255) (q .1) in
+      absurd (out (omega (arith, eqb-false a 0 (not-true (eqb a 0) (p .0)))) (leb-true a 255 (q .0)) (leb-true b 255 (r .0)) (leb-true c 255 (r .1)))
+
+-- two versions, by the first numbers that differ
+module _ (a b : Version) where
+  pub by-major : (a .major ≡ b .major → ⊥) → ltb (a .major) (b .major) ≡ atMost a b
+  unfolding atMost
+  by-major p = rw (ne-eqb (a .major) (b .major) p) (sym (or-false _))
+
+  pub by-minor : a .major ≡ b .major → (a .minor ≡ b .minor → ⊥) → ltb (a .minor) (b .minor) ≡ atMost a b
+  unfolding atMost
+  by-minor p q =
+      let l : b .major ≤ a .major = omega arith in
+      rw (le-ltb (a .major) (b .major) l, eq-eqb (a .major) (b .major) p, ne-eqb (a .minor) (b .minor) q) (sym (or-false _))
+
+  pub by-patch : a .major ≡ b .major → a .minor ≡ b .minor → leb (a .patch) (b .patch) ≡ atMost a b
+  unfolding atMost
+  by-patch p q =
+      let l : b .major ≤ a .major = omega arith in
+      let m : b .minor ≤ a .minor = omega arith in
+      rw (le-ltb (a .major) (b .major) l, eq-eqb (a .major) (b .major) p, le-ltb (a .minor) (b .minor) m, eq-eqb (a .minor) (b .minor) q)

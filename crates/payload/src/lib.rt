@@ -391,7 +391,8 @@ fn document(bytes: &[u8], at: usize, end: usize, levels: usize, top: bool, tags:
     requires { ⌜ (at ≤ end) × (end ≤ length (now bytes)) ⌝ }
     ensures { λ r. ⌜ r ≡ documentOf levels top (now (bytes .entry)) at end tags ⌝ }
 {
-    if levels == 0 {
+    let too_deep = levels == 0;
+    if too_deep {
         return Walk::Fault(refusal::DEPTH);
     }
     if end - at < 4 {

@@ -22,6 +22,13 @@ and-both true c e = (refl, e)
 and-both false c e = (e, cc)
 
 -- what 10 leaves
+-- where a chunk starts, and a place at most a chunk behind, are numbers of 64 bits
+pub small-start : (x y : ℕ) → x ≤ 256 → y ≤ 131072 → x * y < 18446744073709551616
+small-start x y a b = let l : x * y ≤ 256 * y = mul-le-mul-right y a in omega arith
+
+pub small-end : (x y z : ℕ) → x ≤ 256 → y ≤ 131072 → z ≤ 131072 → x * y + z < 18446744073709551616
+small-end x y z a b c = let l : x * y ≤ 256 * y = mul-le-mul-right y a in omega arith
+
 pub chunk-range : (v chunk : ℕ) → chunkFits v chunk ≡ true → (1 ≤ chunk) × (chunk ≤ largest v)
 unfolding chunkFits
 chunk-range v chunk e =

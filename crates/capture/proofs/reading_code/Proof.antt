@@ -1,6 +1,6 @@
 -- `capture::reading_code` meets its contract. Each arm of the match is a clause of `readingCode`, and `ReadingFits` gives its value room.
 -- Assumes nothing.
-use mathlib.Core.Path.{_∙_, sym, ap, subst}
+use mathlib.Core.Path.{ap, subst}
 use native.Mathlib.Omega.{arith}
 use Rattle.capture.specs.Capture.{ReadingFits, readingCode}
 use borrow.Author.Needs.{needs}
@@ -35,13 +35,13 @@ code-of-requires-3 c κs =
     (omega arith, f)
 
 returns : tie.Need-returns
-returns c = (c .code-of .ensures) ∙ sym (ap readingCode (c .before .before .reading .given .1))
+returns c = omega (arith, c .code-of .ensures, ap readingCode (c .before .before .reading .given .1))
 
 returns-2 : tie.Need-returns-2
-returns-2 c = (c .code-of2 .ensures) ∙ sym (ap readingCode (c .before .before .reading2 .given .1))
+returns-2 c = omega (arith, c .code-of2 .ensures, ap readingCode (c .before .before .reading2 .given .1))
 
 returns-3 : tie.Need-returns-3
-returns-3 c = (c .code-of3 .ensures) ∙ sym (ap readingCode (c .before .before .reading3 .given .1))
+returns-3 c = omega (arith, c .code-of3 .ensures, ap readingCode (c .before .before .reading3 .given .1))
 
 pub reading-code-spec : {M : Type 1} → statement M
 reading-code-spec =

@@ -1,17 +1,21 @@
 -- `capture::tilambok_read_frame` meets its contract. What `frame::read` ensures is rewritten into the definition, with the tests on the way.
 -- Assumes nothing.
 use mathlib.Core.Logic.{⊎-elim}
-use Prim.Native.Nat.{ℕ}
+use Prim.Native.Nat.{ℕ, _≤_, _<_}
 use mathlib.Core.Path.{_≡_, refl, sym, subst, _∙_}
 use mathlib.Core.List.{List, [], _∷_}
 use borrow.Author.Tests.{le-leb, lt-leb}
 use native.Mathlib.Omega.{arith}
+use lib.ListN.{length}
+use Rattle.numbers.specs.Bytes.{laid}
 use types.Run.{OneOf}
 use denote.Enum.Declared.{tagOf}
 use Rattle.frame.proofs.Reading.{the-type}
+use Rattle.frame.specs.declared.Header.{Header}
+use Rattle.frame.specs.declared.Extent.{Extent}
 use Rattle.frame.specs.declared.Reading.{Reading}
 use Rattle.frame.specs.declared.Reading.the-variants.{Frame, Refused, Short}
-use Rattle.capture.specs.Capture.{readingCode, ReadingFits, left, leftBy, heard}
+use Rattle.capture.specs.Capture.{readingCode, ReadingFits, fieldBytes, left, leftBy, heard}
 use Rattle.capture.proofs.Laws.{reading-fits}
 use borrow.Author.Needs.{needs}
 use Rattle.capture.proofs.tilambok_read_frame.Statement.{statement}
@@ -22,6 +26,14 @@ no-frame : (fields : List ℕ) (r : Reading) → OneOf (1 ∷ 2 ∷ []) (tagOf t
 no-frame fields (Frame h e) k = ⊎-elim (λ i. absurd (omega arith)) (λ i. absurd (omega arith)) k
 no-frame fields (Refused n) k = refl
 no-frame fields (Short n) k = refl
+
+-- a frame for which too few fields are lent is heard as 11, and writes nothing
+few-fields : (fields : List ℕ) (h : Header) (e : Extent) → length fields < 16 → left (readingCode (Refused 11)) fields ≡ leftBy fields (heard fields (Frame h e))
+few-fields fields h e l = rw (lt-leb 16 (length fields) l)
+
+-- else its fields are put to the front
+all-fields : (fields : List ℕ) (h : Header) (e : Extent) → 16 ≤ length fields → left (readingCode (Frame h e)) (laid (fieldBytes h (e .start)) fields) ≡ leftBy fields (heard fields (Frame h e))
+all-fields fields h e l = rw (le-leb 16 (length fields) l)
 
 read-requires : tie.Need-read-requires
 read-requires c κs = search needs
@@ -41,13 +53,13 @@ reading-code-requires-2 : tie.Need-reading-code-requires-2
 reading-code-requires-2 c κs = search needs
 
 returns-2 : tie.Need-returns-2
-returns-2 c = rw ((c .reading-code2 .ensures), sym (c .before .before .before .before .before .read .ensures) ∙ (c .before .before .before .reading .given .1), lt-leb _ _ (c .before .if1 .taken))
+returns-2 c = rw ((c .reading-code2 .ensures), sym (c .before .before .before .before .before .read .ensures) ∙ (c .before .before .before .reading .given .1)) (few-fields _ _ _ (omega arith))
 
 cast-put-fields : tie.Need-cast-put-fields
 cast-put-fields c = omega (arith, subst ReadingFits (sym (c .before .before .before .before .before .read .ensures) ∙ (c .before .before .before .reading .given .1)) (reading-fits (c .before .before .before .before .before .before .before .before .args .bytes .now)))
 
 put-fields-requires : tie.Need-put-fields-requires
-put-fields-requires c κs = search needs
+put-fields-requires c κs = omega arith
 
 reading-code-requires-3 : tie.Need-reading-code-requires-3
 reading-code-requires-3 c κs = subst ReadingFits (sym (c .before .before .before .before .before .before .before .before .before .read .ensures) ∙ (c .before .before .before .before .before .before .before .reading .given .1)) (reading-fits (c .before .before .before .before .before .before .before .before .before .before .before .before .args .bytes .now))
@@ -56,7 +68,7 @@ same-length : tie.Need-same-length
 same-length c = search needs
 
 returns-3 : tie.Need-returns-3
-returns-3 c = rw ((c .reading-code3 .ensures), sym (c .before .before .before .before .before .before .before .before .before .before .read .ensures) ∙ (c .before .before .before .before .before .before .before .before .reading .given .1), le-leb _ _ (c .before .before .before .before .before .before .if1 .left), (c .before .before .before .put-fields .ensures))
+returns-3 c = rw ((c .reading-code3 .ensures), sym (c .before .before .before .before .before .before .before .before .before .before .read .ensures) ∙ (c .before .before .before .before .before .before .before .before .reading .given .1), (c .before .before .before .put-fields .ensures)) (all-fields _ _ _ (omega arith))
 
 pub tilambok-read-frame-spec : {M : Type 1} → statement M
 tilambok-read-frame-spec =

@@ -1,4 +1,5 @@
--- `lines::decimal_width` meets its contract. The loop's invariant: the digits passed and those of what is left make those of n, and one more.
+-- `lines::decimal_width` meets its contract. The loop's invariant: the digits counted and those of what is left make those of n and the
+-- count at the start, which is one, since the last digit is not counted in the loop.
 -- Assumes nothing.
 use Prim.Native.Nat.{_+_, _≤_}
 use mathlib.Core.Path.{_≡_}
@@ -11,13 +12,13 @@ use Rattle.lines.proofs.decimal_width.Statement.{statement}
 use Rattle.lines.proofs.decimal_width.Tie as tie
 
 abbrev Inv-loop : tie.InvT-loop
-Inv-loop n rest₀ width₀ rest width = (width + length (decimalOf rest) ≡ length (decimalOf n) + 1) × (width + rest ≤ n + 1)
+Inv-loop n rest₀ width₀ rest width = (width + length (decimalOf rest) ≡ width₀ + length (decimalOf n)) × (width + rest ≤ width₀ + n)
 
 abbrev μ-loop : tie.MeasureT-loop
 μ-loop n rest₀ width₀ rest width = rest
 
 loop-holds : tie.Need-loop-holds Inv-loop μ-loop
-loop-holds c = search needs
+loop-holds c = (omega arith, omega arith)
 
 add-width : tie.Need-add-width Inv-loop μ-loop
 add-width c = search needs

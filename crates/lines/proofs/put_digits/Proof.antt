@@ -1,11 +1,11 @@
 -- `lines::put_digits` meets its contract. The loop's invariant: the first 2 i characters lie over the front of the buffer.
 -- Assumes nothing.
-use Prim.Native.Nat.{_+_, _*_, _≤_, _-_}
+use Prim.Native.Nat.{_+_, _*_, _/_, _%_, _≤_, _-_}
 use mathlib.Core.Path.{_≡_, refl, ap, _∙_, sym}
 use mathlib.Core.List.{_++_}
 use native.Mathlib.Omega.{arith}
-use lib.ListN.{length, take, drop, set, length-set}
-use Rattle.lines.specs.Hex.{hexOf}
+use lib.ListN.{length, take, drop, getD, set, length-set}
+use Rattle.lines.specs.Hex.{hexOf, letterOf}
 use Rattle.lines.proofs.Turns.{front-two, front-end}
 use Rattle.lines.proofs.Characters.{length-hex, letters-at}
 use borrow.Author.Needs.{needs}
@@ -59,8 +59,10 @@ loop-again c =
     let first = c .before .letter in
     let second = c .letter2 in
     let two : 2 * (l .i + 1) ≡ 2 * l .i + 1 + 1 = omega arith in
+    let upper : first .result ≡ letterOf (getD b (l .i) 0 / 16) = first .ensures in
+    let lower : second .result ≡ letterOf (getD b (l .i) 0 % 16) = second .ensures in
     let h = letters-at b (l .i) (omega arith) in
-    let f = front-two (hexOf b) o (2 * l .i) (first .result) (second .result) (omega (arith, length-hex b)) (omega arith) (h .0 ∙ sym (first .ensures)) (h .1 ∙ sym (second .ensures)) in
+    let f = front-two (hexOf b) o (2 * l .i) (first .result) (second .result) (omega (arith, length-hex b)) (omega arith) (h .0 ∙ sym upper) (h .1 ∙ sym lower) in
     (omega arith, simp length-set (omega arith), rw two (ap (λ d. set (set d (2 * l .i) (first .result)) (2 * l .i + 1) (second .result)) (l .inv .2) ∙ f))
 
 same-length : tie.Need-same-length Inv-loop μ-loop

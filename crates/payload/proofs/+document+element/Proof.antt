@@ -3,10 +3,12 @@
 -- document inside an element starts behind the element's type. The loop keeps: the elements from `place` on say what the document says.
 -- A nested document leaves the tags as they were, so that an element need not hand them up. Assumes nothing.
 use Prim.Native.Nat.{ℕ, _+_, _*_, _-_, _<_, _≤_}
-use mathlib.Core.Path.{_≡_, ap, _∙_, sym, subst}
+use mathlib.Core.Path.{_≡_, refl, ap, _∙_, sym, subst}
 use mathlib.Core.Bool.{false}
 use borrow.Author.Needs.{needs}
 use native.Mathlib.Omega.{arith}
+use lib.Dec.{eqb}
+use borrow.Author.Tests.{eqb-true, eqb-false}
 use borrow.Fn.Kinds.{In}
 use borrow.Fn.PlainCycle.{Measures, is, falls, and}
 use Rattle.payload.specs.Step.{plainStep, nestedStep, stepped, StepIn}
@@ -18,8 +20,9 @@ use Rattle.payload.specs.declared.Tags.{Tags}
 use Rattle.payload.specs.declared.Walk.{Walk}
 use Rattle.payload.specs.declared.Walk.the-variants.{Past}
 use Rattle.payload.proofs.Within.{HeadIn, WalkIn, head-in, element-in, document-in}
-use Rattle.payload.proofs.Rest.{Rest, rest-used-up, rest-closes, rest-early, rest-fault, rest-next, document-deep, document-short, document-under, document-over, document-elements, element-bad, element-nested, element-plain, plain-stepped, nested-stepped, plain-step-in, nested-step-in}
+use Rattle.payload.proofs.Rest.{Rest, rest-used-up, rest-closes, rest-early, rest-fault, rest-next, document-deep, document-short, document-under, document-over, document-elements, element-bad, element-nested, element-plain, nested-walk, plain-stepped, nested-stepped, plain-step-in, nested-step-in}
 use Rattle.payload.proofs.TopLevel.{document-keeps}
+use Rattle.payload.proofs.Outcomes.{said}
 use Rattle.payload.proofs.document.Reads as document
 use Rattle.payload.proofs.document.Kinds as document-kinds
 use Rattle.payload.proofs.+document+element.Lts-document as document-lts
@@ -62,16 +65,16 @@ abbrev element-calls : ℕ → element-lts.Claims
 element-calls t = (front-reads.Asked, front-reads.Learnt, is-nested-reads.Asked, is-nested-reads.Learnt, document-below t, document.Post, past-nested-reads.Asked, past-nested-reads.Learnt, plain-reads.Asked, plain-reads.Learnt, past-plain-reads.Asked, past-plain-reads.Learnt)
 
 abbrev Inv : document-lts.InvT-loop
-Inv bytes at end levels top size last place₀ so-far₀ place so-far = (place₀ ≤ place) × Rest (documentOf (levels - 1) false bytes) top bytes last (documentOf levels top bytes at end so-far₀) place so-far
+Inv bytes at end levels top too-deep size last place₀ so-far₀ place so-far = (place₀ ≤ place) × Rest (documentOf (levels - 1) false bytes) top bytes last (documentOf levels top bytes at end so-far₀) place so-far
 
 abbrev μ-loop : document-lts.MeasureT-loop
-μ-loop bytes at end levels top size last place₀ so-far₀ place so-far = last - place
+μ-loop bytes at end levels top too-deep size last place₀ so-far₀ place so-far = last - place
 
 module _ (t : ℕ) where
   document-returns : document-lts.Need-returns (document-calls t) (document-at t) document.Post Inv μ-loop
   document-returns c =
       let a = c .before .before .args in
-      document-deep (a .top) (a .bytes .now) (a .at) (a .end) (a .tags) (a .levels) (c .if1 .taken)
+      document-deep (a .top) (a .bytes .now) (a .at) (a .end) (a .tags) (a .levels) (eqb-true (a .levels) 0 (said (eqb (a .levels) 0) (c .if1 .taken) refl))
 
   document-sub-if2 : document-lts.Need-sub-if2 (document-calls t) (document-at t) document.Post Inv μ-loop
   document-sub-if2 c = search needs
@@ -79,7 +82,7 @@ module _ (t : ℕ) where
   document-returns-2 : document-lts.Need-returns-2 (document-calls t) (document-at t) document.Post Inv μ-loop
   document-returns-2 c =
       let a = c .before .before .before .args in
-      document-short (a .top) (a .bytes .now) (a .at) (a .end) (a .tags) (a .levels) (c .before .if1 .left) (c .if2 .taken)
+      document-short (a .top) (a .bytes .now) (a .at) (a .end) (a .tags) (a .levels) (eqb-false (a .levels) 0 (c .before .if1 .left)) (c .if2 .taken)
 
   document-le4-requires : document-lts.Need-le4-requires (document-calls t) (document-at t) document.Post Inv μ-loop
   document-le4-requires c κs = search needs
@@ -90,7 +93,7 @@ module _ (t : ℕ) where
   document-returns-3 : document-lts.Need-returns-3 (document-calls t) (document-at t) document.Post Inv μ-loop
   document-returns-3 c =
       let a = c .before .before .before .before .before .args in
-      document-under (a .top) (a .bytes .now) (a .at) (a .end) (a .tags) (c .before .le4 .result) (c .before .le4 .ensures) (a .levels) (c .before .before .before .if1 .left) (c .before .before .if2 .left) (c .if3 .taken)
+      document-under (a .top) (a .bytes .now) (a .at) (a .end) (a .tags) (c .before .le4 .result) (c .before .le4 .ensures) (a .levels) (eqb-false (a .levels) 0 (c .before .before .before .if1 .left)) (c .before .before .if2 .left) (c .if3 .taken)
 
   document-sub-if4 : document-lts.Need-sub-if4 (document-calls t) (document-at t) document.Post Inv μ-loop
   document-sub-if4 c = search needs
@@ -98,7 +101,7 @@ module _ (t : ℕ) where
   document-returns-4 : document-lts.Need-returns-4 (document-calls t) (document-at t) document.Post Inv μ-loop
   document-returns-4 c =
       let a = c .before .before .before .before .before .before .args in
-      document-over (a .top) (a .bytes .now) (a .at) (a .end) (a .tags) (c .before .before .le4 .result) (c .before .before .le4 .ensures) (a .levels) (c .before .before .before .before .if1 .left) (c .before .before .before .if2 .left) (c .before .if3 .left) (c .if4 .taken)
+      document-over (a .top) (a .bytes .now) (a .at) (a .end) (a .tags) (c .before .before .le4 .result) (c .before .before .le4 .ensures) (a .levels) (eqb-false (a .levels) 0 (c .before .before .before .before .if1 .left)) (c .before .before .before .if2 .left) (c .before .if3 .left) (c .if4 .taken)
 
   document-add-last : document-lts.Need-add-last (document-calls t) (document-at t) document.Post Inv μ-loop
   document-add-last c = search needs
@@ -109,7 +112,7 @@ module _ (t : ℕ) where
   document-loop-holds : document-lts.Need-loop-holds (document-calls t) (document-at t) document.Post Inv μ-loop
   document-loop-holds c =
       let a = c .before .before .before .before .before .before .args in
-      (omega arith, (c .before .before .le4 .result, omega arith, document-elements (a .top) (a .bytes .now) (a .at) (a .end) (a .tags) (c .before .before .le4 .result) (c .before .before .le4 .ensures) (a .levels) (c .before .before .before .before .if1 .left) (c .before .before .before .if2 .left) (c .before .if3 .left) (c .if4 .left)))
+      (omega arith, (c .before .before .le4 .result, omega arith, document-elements (a .top) (a .bytes .now) (a .at) (a .end) (a .tags) (c .before .before .le4 .result) (c .before .before .le4 .ensures) (a .levels) (eqb-false (a .levels) 0 (c .before .before .before .before .if1 .left)) (c .before .before .before .if2 .left) (c .before .if3 .left) (c .if4 .left)))
 
   document-shared-slice-read-if5 : document-lts.Need-shared-slice-read-if5 (document-calls t) (document-at t) document.Post Inv μ-loop
   document-shared-slice-read-if5 c = search needs
@@ -122,17 +125,19 @@ module _ (t : ℕ) where
       let a = c .before .before .before .before .before .before .before .before .before .before .before .args in
       let l = c .before .before .before .before .loop in
       let n = c .before .before .before .before .before .before .before .le4 .result in
-      rest-closes (documentOf (a .levels - 1) false (a .bytes .now)) (a .top) (a .bytes .now) (a .at + n) (documentOf (a .levels) (a .top) (a .bytes .now) (a .at) (a .end) (a .tags)) (l .place) (l .so-far) (c .before .before .before .loop-test .taken) (c .before .if5 .taken) (c .if6 .taken) (l .inv .1)
+      rest-closes (documentOf (a .levels - 1) false (a .bytes .now)) (a .top) (a .bytes .now) (a .at + n) (documentOf (a .levels) (a .top) (a .bytes .now) (a .at) (a .end) (a .tags)) (l .place) (l .so-far) (c .before .before .before .loop-test .taken) (c .before .if5 .taken) (omega arith) (l .inv .1)
 
   document-returns-6 : document-lts.Need-returns-6 (document-calls t) (document-at t) document.Post Inv μ-loop
   document-returns-6 c =
       let a = c .before .before .before .before .before .before .before .before .before .before .before .args in
       let l = c .before .before .before .before .loop in
       let n = c .before .before .before .before .before .before .before .le4 .result in
-      rest-early (documentOf (a .levels - 1) false (a .bytes .now)) (a .top) (a .bytes .now) (a .at + n) (documentOf (a .levels) (a .top) (a .bytes .now) (a .at) (a .end) (a .tags)) (l .place) (l .so-far) (c .before .before .before .loop-test .taken) (c .before .if5 .taken) (c .if6 .left) (l .inv .1)
+      rest-early (documentOf (a .levels - 1) false (a .bytes .now)) (a .top) (a .bytes .now) (a .at + n) (documentOf (a .levels) (a .top) (a .bytes .now) (a .at) (a .end) (a .tags)) (l .place) (l .so-far) (c .before .before .before .loop-test .taken) (c .before .if5 .taken) (λ z. omega arith) (l .inv .1)
 
   document-sub-element : document-lts.Need-sub-element (document-calls t) (document-at t) document.Post Inv μ-loop
-  document-sub-element c = search needs
+  document-sub-element c =
+      let a = c .before .before .before .before .before .before .before .before .before .before .args in
+      omega (arith, eqb-false (a .levels) 0 (c .before .before .before .before .before .before .before .before .if1 .left))
 
   document-element-requires : document-lts.Need-element-requires (document-calls t) (document-at t) document.Post Inv μ-loop
   document-element-requires c κs = search needs
@@ -233,7 +238,7 @@ module _ (t : ℕ) where
       let x = c .before .before .before .before .before .kind .given in
       let i : HeadIn (a .at + 1) (a .end) (Value (x .0 .0) (x .0 .1 .0) (x .0 .1 .1 .0)) = subst (HeadIn (a .at + 1) (a .end)) (sym (c .before .before .before .before .before .before .before .front .ensures) ∙ x .1) (head-in (a .top) (a .bytes .now) (a .at) (a .end) (a .tags)) in (
         ap (stepped (a .bytes .now) (a .tags)) (c .past-nested .ensures)
-            ∙ ap (λ (w : Walk). stepped (a .bytes .now) (a .tags) (nestedStep w (x .0 .1 .0) (x .0 .1 .1 .0))) (c .before .document .ensures)
+            ∙ ap (λ (w : Walk). stepped (a .bytes .now) (a .tags) (nestedStep w (x .0 .1 .0) (x .0 .1 .1 .0))) (nested-walk _ _ _ _ _ _ (c .before .document .ensures) refl)
             ∙ nested-stepped (a .bytes .now) (a .tags) (documentOf (a .levels) false (a .bytes .now) (x .0 .1 .1 .0) (a .end) (a .tags)) (x .0 .1 .0) (x .0 .1 .1 .0) (document-keeps (a .levels) (a .bytes .now) (x .0 .1 .1 .0) (a .end) (a .tags))
             ∙ element-nested (documentOf (a .levels) false (a .bytes .now)) (a .top) (a .bytes .now) (a .at) (a .end) (a .tags) (x .0 .0) (x .0 .1 .0) (x .0 .1 .1 .0) (sym (c .before .before .before .before .before .before .before .front .ensures) ∙ x .1) (sym (c .before .before .before .is-nested .ensures) ∙ (c .before .before .if1 .taken)),
         subst (StepIn (a .end)) (sym (c .past-nested .ensures)) (nested-step-in (a .end) (x .0 .1 .1 .0) (i .1) (c .before .document .result) (x .0 .1 .0)),

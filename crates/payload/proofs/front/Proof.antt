@@ -1,8 +1,9 @@
 -- `payload::front` meets its contract: each return by the tests that led to it: type, key, tag.
 -- Assumes nothing.
-use borrow.Author.Tests.{lt-ltb, le-ltb, not-true, not-false}
-use mathlib.Core.Path.{_∙_, sym}
-use Rattle.payload.specs.Walk.{headOf}
+use borrow.Author.Tests.{not-true, not-false}
+use native.Mathlib.Omega.{arith}
+use mathlib.Core.Path.{refl, _∙_, sym}
+use Rattle.payload.proofs.Outcomes.{said, head-type, head-key, head-clash, head-value}
 use borrow.Author.Needs.{needs}
 use Rattle.payload.proofs.front.Statement.{statement}
 use Rattle.payload.proofs.front.Tie as tie
@@ -14,8 +15,7 @@ is-read-requires : tie.Need-is-read-requires
 is-read-requires c κs = search needs
 
 returns : tie.Need-returns
-unfolding headOf
-returns c = rw (sym (c .before .is-read .ensures) ∙ not-true (c .before .is-read .result) (c .if1 .taken))
+returns c = head-type _ _ _ _ _ (sym (c .before .is-read .ensures) ∙ not-true (c .before .is-read .result) (c .if1 .taken))
 
 add-key : tie.Need-add-key
 add-key c = search needs
@@ -24,8 +24,7 @@ find-requires : tie.Need-find-requires
 find-requires c κs = search needs
 
 returns-2 : tie.Need-returns-2
-unfolding headOf
-returns-2 c = rw (sym (c .before .before .before .is-read .ensures) ∙ not-false (c .before .before .before .is-read .result) (c .before .before .if1 .left), ← (c .before .find .ensures .0), le-ltb _ _ (c .if2 .taken))
+returns-2 c = head-key _ _ _ _ _ (sym (c .before .before .before .is-read .ensures) ∙ not-false (c .before .before .before .is-read .result) (c .before .before .if1 .left)) _ (c .before .find .ensures .0) (omega arith)
 
 add-value : tie.Need-add-value
 add-value c = search needs
@@ -37,12 +36,10 @@ does-clash-requires : tie.Need-does-clash-requires
 does-clash-requires c κs = search needs
 
 returns-3 : tie.Need-returns-3
-unfolding headOf
-returns-3 c = rw (sym (c .before .before .before .before .before .before .is-read .ensures) ∙ not-false (c .before .before .before .before .before .before .is-read .result) (c .before .before .before .before .before .if1 .left), ← (c .before .before .before .before .find .ensures .0), lt-ltb _ _ (c .before .before .before .if2 .left), ← (c .before .before .tag-at .ensures), sym (c .before .does-clash .ensures) ∙ (c .if3 .taken))
+returns-3 c = head-clash _ _ _ _ _ (sym (c .before .before .before .before .before .before .is-read .ensures) ∙ not-false (c .before .before .before .before .before .before .is-read .result) (c .before .before .before .before .before .if1 .left)) _ (c .before .before .before .before .find .ensures .0) (omega arith) _ (c .before .before .tag-at .ensures) (sym (c .before .does-clash .ensures) ∙ said (c .before .does-clash .result) (c .if3 .taken) refl)
 
 returns-4 : tie.Need-returns-4
-unfolding headOf
-returns-4 c = rw (sym (c .before .before .before .before .before .before .is-read .ensures) ∙ not-false (c .before .before .before .before .before .before .is-read .result) (c .before .before .before .before .before .if1 .left), ← (c .before .before .before .before .find .ensures .0), lt-ltb _ _ (c .before .before .before .if2 .left), ← (c .before .before .tag-at .ensures), sym (c .before .does-clash .ensures) ∙ (c .if3 .left))
+returns-4 c = head-value _ _ _ _ _ (sym (c .before .before .before .before .before .before .is-read .ensures) ∙ not-false (c .before .before .before .before .before .before .is-read .result) (c .before .before .before .before .before .if1 .left)) _ (c .before .before .before .before .find .ensures .0) (omega arith) _ (c .before .before .tag-at .ensures) (sym (c .before .does-clash .ensures) ∙ said (c .before .does-clash .result) (c .if3 .left) refl)
 
 pub front-spec : {M : Type 1} → statement M
 front-spec =

@@ -1,7 +1,7 @@
 -- `payload::string` meets its contract: each return by the tests that led to it, over the length that `numbers::le4` read.
 -- Assumes nothing.
-use borrow.Author.Tests.{eq-eqb, ne-eqb, le-leb, lt-leb}
-use Rattle.payload.specs.Walk.{stringOf}
+use native.Mathlib.Omega.{arith}
+use Rattle.payload.proofs.Outcomes.{string-short, string-empty, string-past, string-not-closed, string-closed}
 use borrow.Author.Needs.{needs}
 use Rattle.payload.proofs.string.Statement.{statement}
 use Rattle.payload.proofs.string.Tie as tie
@@ -10,8 +10,7 @@ sub-if1 : tie.Need-sub-if1
 sub-if1 c = search needs
 
 returns : tie.Need-returns
-unfolding stringOf
-returns c = rw (lt-leb _ _ (c .if1 .taken))
+returns c = string-short _ _ _ (omega arith)
 
 le4-requires : tie.Need-le4-requires
 le4-requires c κs = search needs
@@ -20,8 +19,7 @@ cast-counted : tie.Need-cast-counted
 cast-counted c = search needs
 
 returns-2 : tie.Need-returns-2
-unfolding stringOf
-returns-2 c = rw (le-leb _ _ (c .before .before .if1 .left), ← (c .before .le4 .ensures), lt-leb _ _ (c .if2 .taken))
+returns-2 c = string-empty _ _ _ _ (c .before .le4 .ensures) (omega arith) (omega arith)
 
 sub-if3 : tie.Need-sub-if3
 sub-if3 c = search needs
@@ -30,8 +28,7 @@ sub-if3-2 : tie.Need-sub-if3-2
 sub-if3-2 c = search needs
 
 returns-3 : tie.Need-returns-3
-unfolding stringOf
-returns-3 c = rw (le-leb _ _ (c .before .before .before .if1 .left), ← (c .before .before .le4 .ensures), le-leb _ _ (c .before .if2 .left), lt-leb _ _ (c .if3 .taken))
+returns-3 c = string-past _ _ _ _ (c .before .before .le4 .ensures) (omega arith) (omega arith) (omega arith)
 
 add-if4 : tie.Need-add-if4
 add-if4 c = search needs
@@ -49,12 +46,10 @@ add-t13 : tie.Need-add-t13
 add-t13 c = search needs
 
 returns-4 : tie.Need-returns-4
-unfolding stringOf
-returns-4 c = rw (le-leb _ _ (c .before .before .before .before .before .if1 .left), ← (c .before .before .before .before .le4 .ensures), le-leb _ _ (c .before .before .before .if2 .left), le-leb _ _ (c .before .before .if3 .left), eq-eqb _ _ (c .if4 .taken))
+returns-4 c = string-closed _ _ _ _ (c .before .before .before .before .le4 .ensures) (omega arith) (omega arith) (omega arith) (omega arith)
 
 returns-5 : tie.Need-returns-5
-unfolding stringOf
-returns-5 c = rw (le-leb _ _ (c .before .before .before .before .before .if1 .left), ← (c .before .before .before .before .le4 .ensures), le-leb _ _ (c .before .before .before .if2 .left), le-leb _ _ (c .before .before .if3 .left), ne-eqb _ _ (c .if4 .left))
+returns-5 c = string-not-closed _ _ _ _ (c .before .before .before .before .le4 .ensures) (omega arith) (omega arith) (omega arith) (λ z. omega arith)
 
 pub string-spec : {M : Type 1} → statement M
 string-spec =

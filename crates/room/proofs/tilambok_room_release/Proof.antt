@@ -1,6 +1,6 @@
 -- `room::tilambok_room_release` meets its contract: the map goes to `blocks` by value and back.
 -- Assumes nothing.
-use mathlib.Core.Path.{_∙_, ap}
+use mathlib.Core.Path.{_≡_, _∙_, ap}
 use mathlib.Core.List.{List}
 use Prim.Native.Nat.{ℕ}
 use borrow.Author.Tests.{eq-eqb, ne-eqb}
@@ -26,7 +26,9 @@ returns : tie.Need-returns
 unfolding ifWhole
 returns c =
     let a = (c .before .before .before .before .before .before .before .before .before .args) in
-    (rw (eq-eqb _ _ (c .before .before .before .before .before .before .before .if1 .taken)), rw (eq-eqb _ _ (c .before .before .before .before .before .before .before .if1 .taken)) ((c .before .before .put-back .ensures) ∙ (c .before .before .before .before .release .ensures) ∙ ap (λ (m : List ℕ). released (a .low) (a .high) m) (c .before .before .before .before .before .array-of .ensures)))
+    let whole = c .before .before .before .before .before .array-of .result in
+    let freed : c .before .before .before .before .release .result ≡ released (a .low) (a .high) whole = c .before .before .before .before .release .ensures in
+    (rw (eq-eqb _ _ (c .before .before .before .before .before .before .before .if1 .taken)), rw (eq-eqb _ _ (c .before .before .before .before .before .before .before .if1 .taken)) ((c .before .before .put-back .ensures) ∙ freed ∙ ap (λ (m : List ℕ). released (a .low) (a .high) m) (c .before .before .before .before .before .array-of .ensures)))
 
 returns-2 : tie.Need-returns-2
 unfolding ifWhole

@@ -10,7 +10,7 @@ use Rattle.frame.specs.Message.{frameNumber}
 use Rattle.frame.specs.Write.{putOf}
 use Rattle.frame.proofs.Laws.{largest-range}
 use Rattle.sender.specs.Sender.{headerFor, plan, bytesOf, chunkOf, countOf}
-use Rattle.sender.proofs.Counts.{chunk-range, starts, chunk-cut, some-chunk, number-byte}
+use Rattle.sender.proofs.Counts.{small-start, small-end, chunk-range, starts, chunk-cut, some-chunk, number-byte}
 use Rattle.sender.proofs.Laws.{next-fault}
 use borrow.Author.Needs.{needs}
 use Rattle.sender.proofs.put_next.Statement.{statement}
@@ -42,20 +42,18 @@ mul-start : tie.Need-mul-start
 mul-start c =
     let a = (c .before .before .before .before .args) in
     let o = a .outgoing in
-    let m = a .message .now in
     let w = chunk-range (o .version) (o .chunk) ((c .before .before .before .before .pre .0) .chunk) in
-    let s : (a .place - 1) * o .chunk < length m = starts o m (omega arith) (omega arith) (a .place - 1) (omega arith) in
-    record { fits = omega arith }
+    let l = largest-range (o .version) in
+    record { fits = small-start _ _ (omega arith) (omega arith) }
 
 -- src/lib.rt:93:21
 add-least : tie.Need-add-least
 add-least c =
     let a = (c .before .before .before .before .args) in
     let o = a .outgoing in
-    let m = a .message .now in
     let w = chunk-range (o .version) (o .chunk) ((c .before .before .before .before .pre .0) .chunk) in
-    let s : (a .place - 1) * o .chunk < length m = starts o m (omega arith) (omega arith) (a .place - 1) (omega arith) in
-    record { fits = omega (arith, largest-range (o .version)) }
+    let l = largest-range (o .version) in
+    record { fits = small-end _ _ _ (omega arith) (omega arith) (omega arith) }
 
 -- src/lib.rt:93:9
 least-requires : tie.Need-least-requires

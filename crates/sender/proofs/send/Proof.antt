@@ -53,7 +53,7 @@ unfolding fitsOne
 returns-5 c =
     let a = (c .before .before .before .before .before .before .before .before .before .before .before .args) in
     let r : Ready (a .outgoing) = record { version = (sym (c .before .before .before .before .before .before .before .before .known-version .ensures) ∙ not-false (c .before .before .before .before .before .before .before .before .known-version .result) (c .before .before .before .before .before .before .before .if1 .left)); service = (sym (c .before .before .before .before .before .before .listed-service .ensures) ∙ not-false (c .before .before .before .before .before .before .listed-service .result) (c .before .before .before .before .before .if2 .left)); chunk = (sym (c .before .before .before .before .chunk-fits .ensures) ∙ not-false (c .before .before .before .before .chunk-fits .result) (c .before .before .before .if3 .left)) } in
-    sends-none (a .outgoing) (a .k) (a .message .now) (a .out .now) r (le-leb _ _ (c .before .if4 .left)) (c .if5 .taken)
+    sends-none (a .outgoing) (a .k) (a .message .now) (a .out .now) r (le-leb _ _ (c .before .if4 .left)) (omega arith)
 
 put-requires : tie.Need-put-requires
 put-requires c κs =

@@ -1,10 +1,10 @@
 -- `session::first` meets its contract: each return by the tests before it, which hold, and its own, which fails.
 -- Assumes nothing.
-use borrow.Author.Tests.{le-leb, lt-leb, not-true, not-false}
+use borrow.Author.Tests.{not-true, not-false}
+use native.Mathlib.Omega.{arith}
 use mathlib.Core.Path.{sym, _∙_, ap}
-use Prim.Native.Nat.{_-_}
 use Rattle.session.specs.declared.Reassembly.{Reassembly}
-use Rattle.session.specs.Decide.{firstOf}
+use Rattle.session.proofs.Outcomes.{first-18, first-19, first-20, first-21, first-claims}
 use borrow.Author.Needs.{needs}
 use Rattle.session.proofs.first.Statement.{statement}
 use Rattle.session.proofs.first.Tie as tie
@@ -13,15 +13,13 @@ totals-fit-requires : tie.Need-totals-fit-requires
 totals-fit-requires c κs = search needs
 
 returns : tie.Need-returns
-unfolding firstOf
-returns c = rw (sym (c .before .totals-fit .ensures) ∙ not-true (c .before .totals-fit .result) (c .if1 .taken))
+returns c = first-18 _ _ _ _ _ (sym (c .before .totals-fit .ensures) ∙ not-true (c .before .totals-fit .result) (c .if1 .taken))
 
 message-of-requires : tie.Need-message-of-requires
 message-of-requires c κs = search needs
 
 returns-2 : tie.Need-returns-2
-unfolding firstOf
-returns-2 c = rw ((sym (c .before .before .before .totals-fit .ensures) ∙ not-false (c .before .before .before .totals-fit .result) (c .before .before .if1 .left)), (ap (λ (m : Reassembly). m .live) (sym (c .before .message-of .ensures)) ∙ (c .if2 .taken)))
+returns-2 c = first-19 _ _ _ _ _ (sym (c .before .before .before .totals-fit .ensures) ∙ not-false (c .before .before .before .totals-fit .result) (c .before .before .if1 .left)) (ap (λ (m : Reassembly). m .live) (sym (c .before .message-of .ensures)) ∙ (c .if2 .taken))
 
 held-requires : tie.Need-held-requires
 held-requires c κs = search needs
@@ -36,8 +34,7 @@ cast-if3 : tie.Need-cast-if3
 cast-if3 c = search needs
 
 returns-3 : tie.Need-returns-3
-unfolding firstOf
-returns-3 c = rw ((sym (c .before .before .before .before .before .before .before .totals-fit .ensures) ∙ not-false (c .before .before .before .before .before .before .before .totals-fit .result) (c .before .before .before .before .before .before .if1 .left)), (ap (λ (m : Reassembly). m .live) (sym (c .before .before .before .before .before .message-of .ensures)) ∙ (c .before .before .before .before .if2 .left)), ← (c .before .before .before .held .ensures .0), ← (c .before .before .need-of .ensures .0), lt-leb _ _ (c .if3 .taken))
+returns-3 c = first-20 _ _ _ _ _ (sym (c .before .before .before .before .before .before .before .totals-fit .ensures) ∙ not-false (c .before .before .before .before .before .before .before .totals-fit .result) (c .before .before .before .before .before .before .if1 .left)) (ap (λ (m : Reassembly). m .live) (sym (c .before .before .before .before .before .message-of .ensures)) ∙ (c .before .before .before .before .if2 .left)) _ _ (c .before .before .before .held .ensures .0) (c .before .before .need-of .ensures .0) (omega arith)
 
 cast-most : tie.Need-cast-most
 cast-most c = search needs
@@ -49,12 +46,10 @@ add-if4 : tie.Need-add-if4
 add-if4 c = search needs
 
 returns-4 : tie.Need-returns-4
-unfolding firstOf
-returns-4 c = rw ((sym (c .before .before .before .before .before .before .before .before .before .before .totals-fit .ensures) ∙ not-false (c .before .before .before .before .before .before .before .before .before .before .totals-fit .result) (c .before .before .before .before .before .before .before .before .before .if1 .left)), (ap (λ (m : Reassembly). m .live) (sym (c .before .before .before .before .before .before .before .before .message-of .ensures)) ∙ (c .before .before .before .before .before .before .before .if2 .left)), ← (c .before .before .before .before .before .before .held .ensures .0), ← (c .before .before .before .before .before .need-of .ensures .0), le-leb _ _ (c .before .before .before .if3 .left), ← (c .before .most .ensures), lt-leb _ _ (c .if4 .taken))
+returns-4 c = first-21 _ _ _ _ _ (sym (c .before .before .before .before .before .before .before .before .before .before .totals-fit .ensures) ∙ not-false (c .before .before .before .before .before .before .before .before .before .before .totals-fit .result) (c .before .before .before .before .before .before .before .before .before .if1 .left)) (ap (λ (m : Reassembly). m .live) (sym (c .before .before .before .before .before .before .before .before .message-of .ensures)) ∙ (c .before .before .before .before .before .before .before .if2 .left)) _ _ (c .before .before .before .before .before .before .held .ensures .0) (c .before .before .before .before .before .need-of .ensures .0) (omega arith) (omega arith)
 
 returns-5 : tie.Need-returns-5
-unfolding firstOf
-returns-5 c = rw ((sym (c .before .before .before .before .before .before .before .before .before .before .totals-fit .ensures) ∙ not-false (c .before .before .before .before .before .before .before .before .before .before .totals-fit .result) (c .before .before .before .before .before .before .before .before .before .if1 .left)), (ap (λ (m : Reassembly). m .live) (sym (c .before .before .before .before .before .before .before .before .message-of .ensures)) ∙ (c .before .before .before .before .before .before .before .if2 .left)), ← (c .before .before .before .before .before .before .held .ensures .0), ← (c .before .before .before .before .before .need-of .ensures .0), le-leb _ _ (c .before .before .before .if3 .left), ← (c .before .most .ensures), le-leb _ _ (c .if4 .left))
+returns-5 c = first-claims _ _ _ _ _ (sym (c .before .before .before .before .before .before .before .before .before .before .totals-fit .ensures) ∙ not-false (c .before .before .before .before .before .before .before .before .before .before .totals-fit .result) (c .before .before .before .before .before .before .before .before .before .if1 .left)) (ap (λ (m : Reassembly). m .live) (sym (c .before .before .before .before .before .before .before .before .message-of .ensures)) ∙ (c .before .before .before .before .before .before .before .if2 .left)) _ _ (c .before .before .before .before .before .before .held .ensures .0) (c .before .before .before .before .before .need-of .ensures .0) (omega arith) (omega arith)
 
 pub first-spec : {M : Type 1} → statement M
 first-spec =

@@ -3,8 +3,6 @@
 use native.Mathlib.Omega.{arith}
 use Rattle.numbers.proofs.Laws.{length-le}
 use Rattle.payload.proofs.Replies.{length-head, string-put}
-use Prim.Native.Nat.{_+_}
-use lib.ListN.{length}
 use borrow.Author.Needs.{needs}
 use Rattle.payload.proofs.reply.put_string.Statement.{statement}
 use Rattle.payload.proofs.reply.put_string.Tie as tie
@@ -22,16 +20,16 @@ put-four-requires : tie.Need-put-four-requires
 put-four-requires c κs = omega (arith, (c .before .before .before .before .before .before .before .before .pre .0), (c .before .before .before .put-head .ensures .ends), length-head 2 (c .before .before .before .before .before .before .before .before .args .key .now))
 
 put-bytes-requires : tie.Need-put-bytes-requires
-put-bytes-requires c κs = omega (arith, (c .before .before .before .before .before .before .before .before .before .before .before .before .pre .0), (c .before .before .before .put-four .ensures .ends), length-le 4 (length (c .before .before .before .before .before .before .before .before .before .before .before .before .args .text .now) + 1), (c .before .before .before .before .before .before .before .put-head .ensures .ends), length-head 2 (c .before .before .before .before .before .before .before .before .before .before .before .before .args .key .now))
+put-bytes-requires c κs = omega (arith, (c .before .before .before .before .before .before .before .before .before .before .before .before .pre .0), simp length-le at (c .before .before .before .put-four .ensures .ends), (c .before .before .before .before .before .before .before .put-head .ensures .ends), length-head 2 (c .before .before .before .before .before .before .before .before .before .before .before .before .args .key .now))
 
 put-byte-requires : tie.Need-put-byte-requires
-put-byte-requires c κs = omega (arith, (c .before .before .before .before .before .before .before .before .before .before .before .before .before .before .before .before .pre .0), (c .before .before .before .put-bytes .ensures .ends), (c .before .before .before .before .before .before .before .put-four .ensures .ends), length-le 4 (length (c .before .before .before .before .before .before .before .before .before .before .before .before .before .before .before .before .args .text .now) + 1), (c .before .before .before .before .before .before .before .before .before .before .before .put-head .ensures .ends), length-head 2 (c .before .before .before .before .before .before .before .before .before .before .before .before .before .before .before .before .args .key .now))
+put-byte-requires c κs = omega (arith, (c .before .before .before .before .before .before .before .before .before .before .before .before .before .before .before .before .pre .0), (c .before .before .before .put-bytes .ensures .ends), simp length-le at (c .before .before .before .before .before .before .before .put-four .ensures .ends), (c .before .before .before .before .before .before .before .before .before .before .before .put-head .ensures .ends), length-head 2 (c .before .before .before .before .before .before .before .before .before .before .before .before .before .before .before .before .args .key .now))
 
 same-length : tie.Need-same-length
 same-length c = search needs
 
 returns : tie.Need-returns
-returns c = string-put (c .before .before .before .before .before .before .before .before .before .before .before .before .before .before .before .before .before .before .before .args .key .now) (c .before .before .before .before .before .before .before .before .before .before .before .before .before .before .before .before .before .before .before .args .text .now) (c .before .before .before .before .before .before .before .before .before .before .before .before .before .before .before .before .before .before .before .pre .0) (c .before .before .before .before .before .before .before .before .before .before .before .before .before .before .put-head .ensures) (c .before .before .before .before .before .before .before .before .before .before .put-four .ensures) (c .before .before .before .before .before .before .put-bytes .ensures) (c .before .before .put-byte .ensures)
+returns c = string-put (c .before .before .before .before .before .before .before .before .before .before .before .before .before .before .before .before .before .before .before .args .key .now) (c .before .before .before .before .before .before .before .before .before .before .before .before .before .before .before .before .before .before .before .args .text .now) _ (omega arith) (c .before .before .before .before .before .before .before .before .before .before .before .before .before .before .before .before .before .before .before .pre .0) (c .before .before .before .before .before .before .before .before .before .before .before .before .before .before .put-head .ensures) (c .before .before .before .before .before .before .before .before .before .before .put-four .ensures) (c .before .before .before .before .before .before .put-bytes .ensures) (c .before .before .put-byte .ensures)
 
 pub put-string-spec : {M : Type 1} → statement M
 put-string-spec =

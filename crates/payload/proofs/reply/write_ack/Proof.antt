@@ -25,7 +25,7 @@ add-end-3 : tie.Need-add-end-3
 add-end-3 c = omega (arith, (c .size .ensures .1))
 
 returns : tie.Need-returns
-returns c = too-small (ackPayload (c .before .before .before .args .hash) (c .before .before .before .args .mtu) (c .before .before .before .args .version)) (c .before .before .before .args .out .now) (52 + (c .before .size .result)) (omega (arith, (c .before .size .ensures .0), length-ack (c .before .before .before .args .hash) (c .before .before .before .args .mtu) (c .before .before .before .args .version))) (c .if1 .taken)
+returns c = too-small (ackPayload (c .before .before .before .args .hash) (c .before .before .before .args .mtu) (c .before .before .before .args .version)) (c .before .before .before .args .out .now) (52 + (c .before .size .result)) (omega (arith, (c .before .size .ensures .0), length-ack (c .before .before .before .args .hash) (c .before .before .before .args .mtu) (c .before .before .before .args .version))) (omega arith)
 
 cast-put-four : tie.Need-cast-put-four
 cast-put-four c = omega (arith, (c .before .size .ensures .1))
@@ -34,13 +34,13 @@ put-four-requires : tie.Need-put-four-requires
 put-four-requires c κs = search needs
 
 put-grant-requires : tie.Need-put-grant-requires
-put-grant-requires c κs = omega (arith, (c .before .before .before .before .before .if1 .left), (c .before .before .before .put-four .ensures .ends), length-le 4 (52 + (c .before .before .before .before .before .before .size .result)))
+put-grant-requires c κs = omega (arith, (c .before .before .before .before .before .if1 .left), simp length-le at (c .before .before .before .put-four .ensures .ends))
 
 put-version-requires : tie.Need-put-version-requires
-put-version-requires c κs = (omega (arith, (c .before .before .before .before .before .before .before .before .before .if1 .left), (c .before .before .before .before .before .before .before .before .before .before .size .ensures .0), (c .before .before .before .put-grant .ensures .ends), (c .before .before .before .before .before .before .before .put-four .ensures .ends), length-le 4 (52 + (c .before .before .before .before .before .before .before .before .before .before .size .result)), length-grant (c .before .before .before .before .before .before .before .before .before .before .before .before .args .hash) (c .before .before .before .before .before .before .before .before .before .before .before .before .args .mtu)), omega (arith, (c .before .before .before .before .before .before .before .before .before .before .size .ensures .0), (c .before .before .before .before .before .before .before .before .before .before .size .ensures .1)))
+put-version-requires c κs = (omega (arith, (c .before .before .before .before .before .before .before .before .before .if1 .left), (c .before .before .before .before .before .before .before .before .before .before .size .ensures .0), (c .before .before .before .put-grant .ensures .ends), simp length-le at (c .before .before .before .before .before .before .before .put-four .ensures .ends), length-grant (c .before .before .before .before .before .before .before .before .before .before .before .before .args .hash) (c .before .before .before .before .before .before .before .before .before .before .before .before .args .mtu)), omega (arith, (c .before .before .before .before .before .before .before .before .before .before .size .ensures .0), (c .before .before .before .before .before .before .before .before .before .before .size .ensures .1)))
 
 put-byte-requires : tie.Need-put-byte-requires
-put-byte-requires c κs = omega (arith, (c .before .before .before .before .before .before .before .before .before .before .before .before .before .if1 .left), (c .before .before .before .before .before .before .before .before .before .before .before .before .before .before .size .ensures .0), (c .before .before .before .put-version .ensures .ends), (c .before .before .before .before .before .before .before .put-grant .ensures .ends), (c .before .before .before .before .before .before .before .before .before .before .before .put-four .ensures .ends), length-le 4 (52 + (c .before .before .before .before .before .before .before .before .before .before .before .before .before .before .size .result)), length-grant (c .before .before .before .before .before .before .before .before .before .before .before .before .before .before .before .before .args .hash) (c .before .before .before .before .before .before .before .before .before .before .before .before .before .before .before .before .args .mtu), length-string protocolVersion (versionText (c .before .before .before .before .before .before .before .before .before .before .before .before .before .before .before .before .args .version)))
+put-byte-requires c κs = omega (arith, (c .before .before .before .before .before .before .before .before .before .before .before .before .before .if1 .left), (c .before .before .before .before .before .before .before .before .before .before .before .before .before .before .size .ensures .0), (c .before .before .before .put-version .ensures .ends), (c .before .before .before .before .before .before .before .put-grant .ensures .ends), simp length-le at (c .before .before .before .before .before .before .before .before .before .before .before .put-four .ensures .ends), length-grant (c .before .before .before .before .before .before .before .before .before .before .before .before .before .before .before .before .args .hash) (c .before .before .before .before .before .before .before .before .before .before .before .before .before .before .before .before .args .mtu), length-string protocolVersion (versionText (c .before .before .before .before .before .before .before .before .before .before .before .before .before .before .before .before .args .version)))
 
 same-length : tie.Need-same-length
 same-length c = search needs
