@@ -6,9 +6,11 @@ use mathlib.Core.Path.{_≡_, refl, sym, subst, _∙_}
 use mathlib.Core.List.{List, [], _∷_}
 use borrow.Author.Tests.{le-leb, lt-leb}
 use native.Mathlib.Omega.{arith}
+use lib.ListN.{length}
 use types.Run.{OneOf}
 use denote.Enum.Declared.{tagOf}
 use Rattle.frame.proofs.Reading.{the-type}
+use Rattle.frame.proofs.Answers.{is-frame, header-front}
 use Rattle.frame.specs.declared.Reading.{Reading}
 use Rattle.frame.specs.declared.Reading.the-variants.{Frame, Refused, Short}
 use Rattle.capture.specs.Capture.{readingCode, ReadingFits, left, leftBy, heard}
@@ -41,13 +43,15 @@ reading-code-requires-2 : tie.Need-reading-code-requires-2
 reading-code-requires-2 c κs = search needs
 
 returns-2 : tie.Need-returns-2
-returns-2 c = rw ((c .reading-code2 .ensures), sym (c .before .before .before .before .before .read .ensures) ∙ (c .before .before .before .reading .given .1), lt-leb _ _ (c .before .if1 .taken))
+returns-2 c = rw ((c .reading-code2 .ensures), sym (c .before .before .before .before .before .read .ensures) ∙ (c .before .before .before .reading .given .1), lt-leb 16 (length (c .before .before .before .before .before .before .before .before .args .fields .now)) (omega arith))
 
 cast-put-fields : tie.Need-cast-put-fields
 cast-put-fields c = omega (arith, subst ReadingFits (sym (c .before .before .before .before .before .read .ensures) ∙ (c .before .before .before .reading .given .1)) (reading-fits (c .before .before .before .before .before .before .before .before .args .bytes .now)))
 
 put-fields-requires : tie.Need-put-fields-requires
-put-fields-requires c κs = search needs
+put-fields-requires c κs =
+    let p = sym (c .before .before .before .before .before .before .read .ensures) ∙ (c .before .before .before .before .reading .given .1) in
+    (is-frame _ _ _ p .long, (omega arith, header-front _ _ _ p))
 
 reading-code-requires-3 : tie.Need-reading-code-requires-3
 reading-code-requires-3 c κs = subst ReadingFits (sym (c .before .before .before .before .before .before .before .before .before .read .ensures) ∙ (c .before .before .before .before .before .before .before .reading .given .1)) (reading-fits (c .before .before .before .before .before .before .before .before .before .before .before .before .args .bytes .now))
@@ -56,7 +60,7 @@ same-length : tie.Need-same-length
 same-length c = search needs
 
 returns-3 : tie.Need-returns-3
-returns-3 c = rw ((c .reading-code3 .ensures), sym (c .before .before .before .before .before .before .before .before .before .before .read .ensures) ∙ (c .before .before .before .before .before .before .before .before .reading .given .1), le-leb _ _ (c .before .before .before .before .before .before .if1 .left), (c .before .before .before .put-fields .ensures))
+returns-3 c = rw ((c .reading-code3 .ensures), sym (c .before .before .before .before .before .before .before .before .before .before .read .ensures) ∙ (c .before .before .before .before .before .before .before .before .reading .given .1), le-leb 16 (length (c .before .before .before .before .before .before .before .before .before .before .before .before .before .args .fields .now)) (omega arith), (c .before .before .before .put-fields .ensures))
 
 pub tilambok-read-frame-spec : {M : Type 1} → statement M
 tilambok-read-frame-spec =

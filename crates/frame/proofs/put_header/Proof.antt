@@ -62,7 +62,7 @@ returns c =
     let h = (c .before .before .before .before .before .before .before .before .before .before .args .header) in
     let o = (c .before .before .before .before .before .before .before .before .before .before .args .out .now) in
     let l : 8 ≤ length o = omega (arith, header-range (h .version), (c .before .before .before .before .before .before .before .before .before .before .pre .1)) in
-    header-one h (c .before .before .before .before .before .before .before .flag-bit .result) o _ (c .before .before .before .before .before .before .before .flag-bit .ensures) (c .if1 .taken)
+    header-one h (c .before .before .before .before .before .before .before .flag-bit .result) o _ (c .before .before .before .before .before .before .before .flag-bit .ensures) (omega arith)
     (front-put (h .version * 16 + (c .before .before .before .before .before .before .before .flag-bit .result) + h .kind) (h .service .0) (h .info) (h .session .0) (h .size) o _ l (c .before .before .before .before .put-be4 .ensures))
 
 put-be4-requires-2 : tie.Need-put-be4-requires-2
