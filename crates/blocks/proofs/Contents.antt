@@ -15,6 +15,15 @@ use Rattle.blocks.specs.Pool.{blockBytes, over, appended, delivered, joi
 use Rattle.blocks.proofs.Over.{split, compare, over-length, over-append, over-adds, over-front}
 use Rattle.blocks.proofs.Counts.{held-mine, held-not, claim-taken, claim-enough, claim-held, claim-cases, release-hit, release-below, release-above, release-cases, numbers-mine, numbers-not}
 
+-- ---- worked cases, by computation; a pool of a few bytes is a first block cut short
+
+-- behind one byte of a block of four; two of its bytes to the front of three
+contents : appended 5 1 (8 ∷ 9 ∷ []) (5 ∷ []) (1 ∷ 2 ∷ 3 ∷ 4 ∷ []) ∷ appended 5 3 (8 ∷ 9 ∷ []) (5 ∷ []) (1 ∷ 2 ∷ 3 ∷ 4 ∷ [])
+    ∷ appended 5 1 (8 ∷ 9 ∷ []) (6 ∷ []) (1 ∷ 2 ∷ 3 ∷ 4 ∷ []) ∷ delivered 5 2 (5 ∷ []) (1 ∷ 2 ∷ 3 ∷ 4 ∷ []) (7 ∷ 7 ∷ 7 ∷ []) ∷ []
+    ≡ (1 ∷ 8 ∷ 9 ∷ 4 ∷ []) ∷ (1 ∷ 2 ∷ 3 ∷ 8 ∷ []) ∷ (1 ∷ 2 ∷ 3 ∷ 4 ∷ []) ∷ (1 ∷ 2 ∷ 7 ∷ []) ∷ []
+unfolding blockBytes over appended delivered
+contents = refl
+
 -- ---- one block
 
 pub bytes-mine : (owner o : ℕ) (map pool : List ℕ) → o ≡ owner → blockBytes owner (o ∷ map) pool ≡ take blockSize pool ++ blockBytes owner map (drop blockSize pool)

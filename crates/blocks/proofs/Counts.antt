@@ -11,8 +11,26 @@ use lib.ListN.{length, take, drop, getD, replicate, length-replicate}
 use lib.Seq.{take-nil}
 use borrow.Author.Tests.{eqb-true, eqb-false, eq-eqb, ne-eqb, ltb-true, ltb-false, leb-true, leb-false, le-leb, lt-leb, lt-ltb, le-ltb}
 use Rattle.numbers.specs.Bytes.{pick, AreBytes}
-use Rattle.blocks.specs.Map.{blockSize, blockCount, free, neededFor, freeMap, heldBy, heldByAll, freeIn, claimed, released, numbersFrom, placeOf, Below, Outside}
+use Rattle.blocks.specs.Map.{blockSize, blockCount, free, neededFor, freeMap, heldBy, heldByAll, freeIn, claimed, released, numbersFrom, blockNumbers, placeOf, Below, Outside}
 use Rattle.blocks.proofs.Over.{split}
+
+-- ---- worked cases, by computation: before the laws, so that a changed definition is told by its values
+
+-- "Total 256 needs 1 block, 257 needs 2, 65,536 needs 256"; total 600 needs 3; none needs none
+needs : neededFor 0 ∷ neededFor 1 ∷ neededFor 256 ∷ neededFor 257 ∷ neededFor 600 ∷ neededFor 65536 ∷ [] ≡ 0 ∷ 1 ∷ 1 ∷ 2 ∷ 3 ∷ 256 ∷ []
+unfolding neededFor
+needs = refl
+
+-- two of three free blocks, and more than there are; the owners 3 and 4 released
+claims : claimed 5 2 (0 ∷ 3 ∷ 0 ∷ 4 ∷ 0 ∷ []) ∷ claimed 5 9 (0 ∷ 3 ∷ 0 ∷ 4 ∷ 0 ∷ []) ∷ released 3 4 (5 ∷ 3 ∷ 5 ∷ 4 ∷ 0 ∷ []) ∷ []
+    ≡ (5 ∷ 3 ∷ 5 ∷ 4 ∷ 0 ∷ []) ∷ (5 ∷ 3 ∷ 5 ∷ 4 ∷ 5 ∷ []) ∷ (5 ∷ 0 ∷ 5 ∷ 0 ∷ 0 ∷ []) ∷ []
+unfolding claimed released heldBy
+claims = refl
+
+places : blockNumbers 5 (5 ∷ 3 ∷ 5 ∷ 4 ∷ 5 ∷ []) ∷ (heldBy 5 (5 ∷ 3 ∷ 5 ∷ []) ∷ placeOf 5 1 (5 ∷ 3 ∷ 5 ∷ []) ∷ placeOf 5 2 (5 ∷ 3 ∷ 5 ∷ []) ∷ []) ∷ []
+    ≡ (0 ∷ 2 ∷ 4 ∷ []) ∷ (2 ∷ 2 ∷ 3 ∷ []) ∷ []
+unfolding numbersFrom heldBy placeOf
+places = refl
 
 -- ---- blocks for so many bytes
 

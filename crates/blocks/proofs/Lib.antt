@@ -3,4 +3,3 @@ pub mod Counts
 pub mod Contents
 mod Turns
 mod Steps
-mod Cases

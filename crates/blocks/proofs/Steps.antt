@@ -1,6 +1,6 @@
 -- The steps of appending and delivering: blocks that are passed over, one block's share, and the rest on what is behind that block.
 -- By induction along the map up to the block, and by the laws of parts. Assumes nothing.
-use Prim.Native.Nat.{ℕ, suc, _+_, _-_, _*_, _/_, _%_, _<_, _≤_, min}
+use Prim.Native.Nat.{ℕ, zero, suc, _+_, _-_, _*_, _/_, _%_, _<_, _≤_, min}
 use mathlib.Core.Path.{_≡_, refl, ap, ap₂, sym, _∙_}
 use mathlib.Core.Logic.{_≢_}
 use mathlib.Core.Bool.{Bool, true, false}
@@ -12,11 +12,11 @@ use lib.ListN.{length, take, drop, getD, length-append, length-take, length-drop
 use lib.Seq.{take-nil, drop-nil, take-all, take-take, take-add, take-at, drop-at, drop-drop, drop-cons, length-take-le, take-append-le, take-append-add, drop-append-add}
 use borrow.Author.Tests.{lt-ltb, le-ltb, ltb-true, ltb-false}
 use borrow.Rule.Slice.PartMut.{putMid}
-use Rattle.blocks.specs.Map.{blockSize, neededFor, placeOf}
+use Rattle.blocks.specs.Map.{blockSize, neededFor, heldBy, placeOf}
 use Rattle.blocks.specs.Pool.{appendedFrom, blockBytes, over, appended, delivered}
-use Rattle.blocks.proofs.Over.{compare, over-length, over-past, over-nothing, over-behind, over-parts, over-pieces}
+use Rattle.blocks.proofs.Over.{compare, over-length, over-past, over-nothing, over-behind, over-adds, over-parts, over-front, over-append, over-pieces}
 use Rattle.blocks.proofs.Counts.{place-here, place-later, place-not, place-cases, place-owner}
-use Rattle.blocks.proofs.Contents.{bytes-mine, bytes-not, bytes-none, append-mine, append-not, append-length}
+use Rattle.blocks.proofs.Contents.{bytes-mine, bytes-not, bytes-none, bytes-length, append-mine, append-not, append-length}
 use Rattle.blocks.proofs.Turns.{part-behind, rest-place}
 
 -- ---- parts
@@ -64,18 +64,32 @@ due-falls due n size start bytes h inside sized least = omega arith
 
 -- ---- putting bytes over others, in the parts that code lends
 
-pub overwritten : (s l r : List ℕ) (at n : ℕ) → at < length l → n ≡ min (length s) (length l - at)
-    → r ≡ take (length (take (n - 0) (drop 0 s))) (take (n - 0) (drop 0 s)) ++ drop (length (take (n - 0) (drop 0 s))) (take (at + n - at) (drop at l))
-    → putMid at (at + n - at) l r ≡ over at s l
+pub overwritten : (s l r : List ℕ) (at n : ℕ) → at < length l → n ≡ min (length s) (length l - at) → r ≡ take (n - 0) (drop 0 s) → putMid at (at + n - at) l r ≡ over at s l
 overwritten s l r at n h e f =
     let z : at + n - at ≡ n = omega arith in
     let y : n - 0 ≡ n = omega arith in
-    let long : length (take n s) ≡ n = length-take-le n s (omega arith) in
-    let short : length (take n (drop at l)) ≤ n = omega (arith, length-take n (drop at l)) in
-    let all : take n (take n s) ≡ take n s = take-take n n s (omega arith) in
-    let none : drop n (take n (drop at l)) ≡ [] = drop-of-length-le (take n (drop at l)) {i = n} short in
-    let g : r ≡ take n s = f ∙ rw (y, z, long, all, none) (append-nil (take n s)) in
-    rw (z, g, drop-drop n at l) (sym (over-parts at n s l (omega arith) e))
+    rw (z, f, y, drop-drop n at l) (sym (over-parts at n s l (omega arith) e))
+
+-- bytes copied by way of other bytes m, and in two halves
+pub by-way : (s z m t r : List ℕ) → length t ≡ length s → m ≡ take (length s) s ++ drop (length s) z
+    → r ≡ take (length (take (length s - 0) (drop 0 m))) (take (length s - 0) (drop 0 m)) ++ drop (length (take (length s - 0) (drop 0 m))) t
+    → r ≡ s
+by-way s z m t r l e f =
+    let y : length s - 0 ≡ length s = omega arith in
+    let all : take (length s) s ≡ s = take-all (length s) s (omega arith) in
+    let near : take (length s) m ≡ s = rw (e, all) (take-at s (drop (length s) z) (length s) refl) in
+    let h : length t ≤ length s = omega arith in
+    f ∙ rw (y, near, all, drop-of-length-le t {i = length s} h) (append-nil s)
+
+pub halves : (s t a b : List ℕ) → length s ≡ 256 → length t ≡ 256 → a ≡ take 128 s → b ≡ take 128 (drop 128 s) → putMid 128 128 (putMid 0 128 t a) b ≡ s
+halves s t a b l m e f =
+    let p : List ℕ = a ++ drop 128 t in
+    let half : length a ≡ 128 = rw e (length-take-le 128 s (omega arith)) in
+    let near : take 128 p ≡ a = take-at a (drop 128 t) 128 half in
+    let far : drop 128 p ≡ drop 128 t = drop-at a (drop 128 t) 128 half in
+    let short : length (drop 128 t) ≤ 128 = omega (arith, length-drop 128 t) in
+    let rest : take 128 (drop 128 s) ≡ drop 128 s = take-all 128 (drop 128 s) (omega (arith, length-drop 128 s)) in
+    rw (near, far, drop-of-length-le (drop 128 t) {i = 128} short, append-nil b, f, rest, e) (take-append-drop 128 s)
 
 -- ---- blocks that are passed over
 
@@ -389,91 +403,116 @@ module _ (owner due : ℕ) (map pool out : List ℕ) where
           e ∙ rw (part-behind map (k + 1), part-behind pool (start + size), behind-short pool start size sized, part-behind o n, far, add-one k) in
           rw (none, append-nil q, more) (sym whole)
 
--- ---- delivering, some blocks and then the rest
+-- ---- delivering, the blocks among some entries of the map and then the rest
 
--- the bytes from the owner's block at the place n on
-bytes-place : (owner n k : ℕ) (map pool : List ℕ) → k ≡ placeOf owner n map
-    → blockBytes owner (drop k map) (drop (blockSize * k) pool) ≡ drop (blockSize * n) (blockBytes owner map pool)
-unfolding blockBytes placeOf
-bytes-place owner n k [] pool g = rw (drop-nil k) (sym (drop-nil (blockSize * n)))
-bytes-place owner n k (o ∷ map) pool g =
-    place-cases owner n o
-    (λ e z.
-    let q : k ≡ 0 = g ∙ place-here owner n o map e z in
-    rw (q, z))
-    (λ e z.
-    let q : k ≡ suc (placeOf owner (n - 1) map) = g ∙ place-later owner n o map e z in
-    further o map pool k (placeOf owner (n - 1) map) q ∙ bytes-place owner (n - 1) (placeOf owner (n - 1) map) map (drop blockSize pool) refl
-    ∙ behind-first n pool (blockBytes owner map (drop blockSize pool)) z (λ s. short s)
-    ∙ ap (drop (blockSize * n)) (sym (bytes-mine owner o map pool e)))
-    (λ e.
-    let q : k ≡ suc (placeOf owner n map) = g ∙ place-not owner n o map e in
-    further o map pool k (placeOf owner n map) q ∙ bytes-place owner n (placeOf owner n map) map (drop blockSize pool) refl
-    ∙ ap (drop (blockSize * n)) (sym (bytes-not owner o map pool e)))
-  where
-    further : (o : ℕ) (map pool : List ℕ) (k j : ℕ) → k ≡ suc j → blockBytes owner (drop k (o ∷ map)) (drop (blockSize * k) pool) ≡ blockBytes owner (drop j map) (drop (blockSize * j) (drop blockSize pool))
-    further o map pool k j q =
-        let m : blockSize * k ≡ blockSize + blockSize * j = omega arith in
-        rw (m, q, drop-drop (blockSize * j) blockSize pool)
+-- the bytes of a map in two pieces
+bytes-pieces : (owner : ℕ) (a b pool : List ℕ) → blockBytes owner (a ++ b) pool ≡ blockBytes owner a pool ++ blockBytes owner b (drop (blockSize * length a) pool)
+unfolding blockBytes
+bytes-pieces owner [] b pool = refl
+bytes-pieces owner (o ∷ a) b pool =
+    let m : blockSize * suc (length a) ≡ blockSize + blockSize * length a = omega arith in
+    let further : blockBytes owner (a ++ b) (drop blockSize pool) ≡ blockBytes owner a (drop blockSize pool) ++ blockBytes owner b (drop (blockSize * suc (length a)) pool)
+    = bytes-pieces owner a b (drop blockSize pool) ∙ rw (m, drop-drop (blockSize * length a) blockSize pool) in
+    place-cases owner 0 o
+    (λ e z. bytes-mine owner o (a ++ b) pool e ∙ rw (further, bytes-mine owner o a pool e) (sym (append-assoc (take blockSize pool) _ _)))
+    (λ e z. absurd (z refl))
+    (λ e. bytes-not owner o (a ++ b) pool e ∙ rw (further, bytes-not owner o a pool e))
 
-    short : length pool < blockSize → blockBytes owner map (drop blockSize pool) ≡ []
-    short s =
-        let h : length pool ≤ blockSize = omega arith in
-        rw (drop-of-length-le pool {i = blockSize} h) (bytes-none owner map)
+-- more bytes than there is room for
+over-cut : (n : ℕ) (s l : List ℕ) → length l ≤ n → over 0 (take n s) l ≡ over 0 s l
+unfolding over
+over-cut n s [] h = refl
+over-cut n [] (x ∷ l) h = rw (take-nil n)
+over-cut zero (y ∷ s) (x ∷ l) h = absurd (omega arith)
+over-cut (suc n) (y ∷ s) (x ∷ l) h = ap (λ (t : List ℕ). y ∷ t) (over-cut n s l (omega arith))
 
-    behind-first : (n : ℕ) (pool rest : List ℕ) → n ≢ 0 → (length pool < blockSize → rest ≡ []) → drop (blockSize * (n - 1)) rest ≡ drop (blockSize * n) (take blockSize pool ++ rest)
-    behind-first n pool rest z none =
-        compare blockSize (length pool)
-        (λ h.
-        let full : length (take blockSize pool) ≡ blockSize = length-take-le blockSize pool h in
-        let m : blockSize * n ≡ length (take blockSize pool) + blockSize * (n - 1) = omega arith in
-        rw m (sym (drop-append-add (take blockSize pool) rest (blockSize * (n - 1)))))
-        (λ h.
-        let small : length (take blockSize pool) ≤ blockSize * n = omega (arith, length-take blockSize pool) in
-        rw (none h, append-nil (take blockSize pool), drop-nil (blockSize * (n - 1))) (sym (drop-of-length-le (take blockSize pool) {i = blockSize * n} small)))
+-- what is due beyond out's end is not delivered
+pub deliver-most : (owner due most : ℕ) (map pool out : List ℕ) → most ≡ min due (length out) → delivered owner most map pool out ≡ delivered owner due map pool out
+unfolding delivered
+deliver-most owner due most map pool out e =
+    compare due (length out)
+    (λ h. let z : most ≡ due = omega arith in rw z)
+    (λ h. over-cut most (blockBytes owner map pool) out (omega arith) ∙ sym (over-cut due (blockBytes owner map pool) out (omega arith)))
 
-module _ (owner due n : ℕ) (map pool out : List ℕ) (o : List ℕ) (put : o ≡ delivered owner (blockSize * n) map pool out) (more : blockSize * n < due) where
-  -- what is delivered, in two pieces
-  pieces : delivered owner due map pool out ≡ take (blockSize * n) o ++ over 0 (take (due - blockSize * n) (drop (blockSize * n) (blockBytes owner map pool))) (drop (blockSize * n) o)
-  unfolding delivered
-  pieces =
-      let all : List ℕ = blockBytes owner map pool in
-      let w : due ≡ blockSize * n + (due - blockSize * n) = omega arith in
-      let cut : take due all ≡ take (blockSize * n) all ++ take (due - blockSize * n) (drop (blockSize * n) all) = ap (λ (i : ℕ). take i all) w ∙ take-add (blockSize * n) (due - blockSize * n) all in
-      compare (blockSize * n) (length (blockBytes owner map pool))
-      (λ h.
-      let full : length (take (blockSize * n) all) ≡ blockSize * n = length-take-le (blockSize * n) all h in
-      let z : 0 + length (take (blockSize * n) all) ≡ blockSize * n = omega arith in
-      let far : drop (blockSize * n) o ≡ drop (blockSize * n) out = ap (drop (blockSize * n)) put ∙ rw z at (over-behind 0 (take (blockSize * n) all) out) in
-      ap (λ (s : List ℕ). over 0 s out) cut ∙ over-pieces (take (blockSize * n) all) (take (due - blockSize * n) (drop (blockSize * n) all)) out
-      ∙ rw (full, ← put, far))
-      (λ h.
-      let g : length all ≤ blockSize * n = omega arith in
-      let none : drop (blockSize * n) all ≡ [] = drop-of-length-le all {i = blockSize * n} g in
-      ap (λ (s : List ℕ). over 0 s out) (cut ∙ rw (none, take-nil (due - blockSize * n)) (append-nil (take (blockSize * n) all)))
-      ∙ sym put ∙ sym (take-append-drop (blockSize * n) o)
-      ∙ ap (λ (t : List ℕ). take (blockSize * n) o ++ t) (sym (rw (none, take-nil (due - blockSize * n)) (over-nothing 0 (drop (blockSize * n) o)))))
+-- bytes that fill a list
+over-full : (s l : List ℕ) → length s ≡ length l → over 0 s l ≡ s
+over-full s l e =
+    let h : length l ≤ length s = omega arith in
+    over-front s l (omega arith) ∙ rw (drop-of-length-le l {i = length s} h) (append-nil s)
 
-  -- out ends with the first piece
-  pub pieces-full : length o ≤ blockSize * n → o ≡ delivered owner due map pool out
-  unfolding over
-  pieces-full h = sym (pieces ∙ rw (drop-of-length-le o {i = blockSize * n} h, take-all (blockSize * n) o h) (append-nil o))
+-- a turn: the blocks among w entries
+module _ (owner from done most w n here : ℕ) (map pool out r : List ℕ) (inside : from + w ≤ length map) (there : blockSize * (from + w) ≤ length pool) (fits : most ≤ length out) (so-far : done ≤ most)
+    (held : here ≡ heldBy owner (take (from + w - from) (drop from map))) (least : n ≡ min (blockSize * here) (most - done))
+    (put : r ≡ delivered owner n (take (from + w - from) (drop from map)) (take (length pool - blockSize * from) (drop (blockSize * from) pool)) (take (done + n - done) (drop done out))) where
+  few : List ℕ
+  few = take w (drop from map)
 
-  module _ (k : ℕ) (is : k ≡ placeOf owner n map) where
-    -- the pool ends before the second piece
-    pub pieces-end : length pool ≤ blockSize * k → o ≡ delivered owner due map pool out
-    pieces-end h =
-        let none : drop (blockSize * n) (blockBytes owner map pool) ≡ [] =
-        sym (bytes-place owner n k map pool is) ∙ rw (drop-of-length-le pool {i = blockSize * k} h) (bytes-none owner (drop k map)) in
-        sym (pieces ∙ rw (none, take-nil (due - blockSize * n), over-nothing 0 (drop (blockSize * n) o)) (take-append-drop (blockSize * n) o))
+  bytes : List ℕ
+  bytes = blockBytes owner few (drop (blockSize * from) pool)
 
-    -- the second piece went to what is behind in out
-    pub pieces-more : (q : List ℕ)
-        → q ≡ delivered owner (due - blockSize * n) (take (length map - k) (drop k map)) (take (length pool - blockSize * k) (drop (blockSize * k) pool)) (take (length o - blockSize * n) (drop (blockSize * n) o))
-        → putMid (blockSize * n) (length o - blockSize * n) o q ≡ delivered owner due map pool out
-    unfolding delivered
-    pieces-more q e =
-        let none : drop (length o - blockSize * n) (drop (blockSize * n) o) ≡ [] = drop-of-length-le (drop (blockSize * n) o) {i = length o - blockSize * n} (omega (arith, length-drop (blockSize * n) o)) in
-        let far : q ≡ over 0 (take (due - blockSize * n) (drop (blockSize * n) (blockBytes owner map pool))) (drop (blockSize * n) o) =
-        e ∙ rw (part-behind map k, part-behind pool (blockSize * k), part-behind o (blockSize * n), bytes-place owner n k map pool is) in
-        rw (none, append-nil q, far) (sym pieces)
+  few-length : length few ≡ w
+  unfolding few
+  few-length = length-take-le w (drop from map) (omega (arith, length-drop from map))
+
+  bytes-here : length bytes ≡ blockSize * here
+  unfolding few bytes
+  bytes-here =
+      let z : from + w - from ≡ w = omega arith in
+      bytes-length owner few (drop (blockSize * from) pool) (omega (arith, few-length, length-drop (blockSize * from) pool))
+      ∙ ap (λ (k : ℕ). blockSize * k) (sym (rw z at held))
+
+  share-here : length (take n bytes) ≡ n
+  share-here = length-take-le n bytes (omega (arith, bytes-here))
+
+  got : r ≡ take n bytes
+  unfolding few bytes delivered
+  got =
+      let z : from + w - from ≡ w = omega arith in
+      let y : done + n - done ≡ n = omega arith in
+      let room : length (take n (drop done out)) ≡ n = length-take-le n (drop done out) (omega (arith, length-drop done out)) in
+      put ∙ rw (z, y, part-behind pool (blockSize * from)) (over-full (take n bytes) (take n (drop done out)) (share-here ∙ sym room))
+
+  all-here : delivered owner (most - done) (drop from map) (drop (blockSize * from) pool) (drop done out)
+      ≡ r ++ delivered owner (most - (done + n)) (drop (from + w) map) (drop (blockSize * (from + w)) pool) (drop n (drop done out))
+  unfolding few bytes delivered
+  all-here =
+      let o : List ℕ = drop done out in
+      let later : List ℕ = blockBytes owner (drop (from + w) map) (drop (blockSize * (from + w)) pool) in
+      let m : blockSize * (from + w) ≡ blockSize * from + blockSize * w = omega arith in
+      let both : blockBytes owner (drop from map) (drop (blockSize * from) pool) ≡ bytes ++ later
+      = ap (λ (t : List ℕ). blockBytes owner t (drop (blockSize * from) pool)) (sym (take-append-drop w (drop from map)))
+      ∙ bytes-pieces owner few (drop w (drop from map)) (drop (blockSize * from) pool)
+      ∙ rw (few-length, drop-drop w from map, drop-drop (blockSize * w) (blockSize * from) pool, m) in
+      let left : most - done - n ≡ most - (done + n) = omega arith in
+      let v : 0 + length (take n bytes) ≡ n = omega (arith, share-here) in
+      let near : take n (over 0 (take n bytes) o) ≡ take n bytes = rw v at (over-adds 0 (take n bytes) o (omega (arith, share-here, length-drop done out))) in
+      ap (λ (s : List ℕ). over 0 s o) (ap (take (most - done)) both ∙ take-share (most - done) n bytes later (omega (arith, bytes-here)))
+      ∙ over-pieces (take n bytes) (take (most - done - n) later) o
+      ∙ rw (share-here, near, got, left)
+
+  pub group-delivered : take (done + n) (putMid done (done + n - done) out r)
+      ++ delivered owner (most - (done + n)) (drop (from + w) map) (drop (blockSize * (from + w)) pool) (drop (done + n) (putMid done (done + n - done) out r))
+      ≡ take done out ++ delivered owner (most - done) (drop from map) (drop (blockSize * from) pool) (drop done out)
+  group-delivered =
+      let y : done + n - done ≡ n = omega arith in
+      let front : length (take done out) ≡ done = length-take-le done out (omega arith) in
+      let size : length (take done out ++ r) ≡ done + n = omega (arith, length-append (take done out) r, front, ap length got, share-here) in
+      let whole : putMid done (done + n - done) out r ≡ (take done out ++ r) ++ drop n (drop done out) = rw y (sym (append-assoc (take done out) r (drop n (drop done out)))) in
+      rw (whole, take-at (take done out ++ r) (drop n (drop done out)) (done + n) size, drop-at (take done out ++ r) (drop n (drop done out)) (done + n) size, append-assoc, all-here)
+
+-- the rest, to the part of out that is still due
+pub rest-delivered : (owner from done most : ℕ) (map pool out r : List ℕ) → done ≤ most → most ≤ length out
+    → r ≡ delivered owner (most - done) (take (length map - from) (drop from map)) (take (length pool - blockSize * from) (drop (blockSize * from) pool)) (take (most - done) (drop done out))
+    → putMid done (most - done) out r ≡ take done out ++ delivered owner (most - done) (drop from map) (drop (blockSize * from) pool) (drop done out)
+unfolding delivered
+rest-delivered owner from done most map pool out r h g e =
+    let m : ℕ = most - done in
+    let o : List ℕ = drop done out in
+    let s : List ℕ = take m (blockBytes owner (drop from map) (drop (blockSize * from) pool)) in
+    let room : length (take m o) ≡ m = length-take-le m o (omega (arith, length-drop done out)) in
+    let none : drop m s ≡ [] = drop-of-length-le s {i = m} (omega (arith, length-take m (blockBytes owner (drop from map) (drop (blockSize * from) pool)))) in
+    let z : m - 0 ≡ m = omega arith in
+    let w : 0 - m ≡ 0 = omega arith in
+    let cut : over 0 s o ≡ over 0 s (take m o) ++ drop m o
+    = ap (over 0 s) (sym (take-append-drop m o)) ∙ over-append 0 s (take m o) (drop m o) ∙ rw (room, z, w, none, over-nothing 0 (drop m o)) in
+    rw (cut, e, part-behind map from, part-behind pool (blockSize * from))

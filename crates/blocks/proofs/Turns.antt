@@ -112,6 +112,19 @@ rest-place owner n map i r e = e ∙ ap (placeOf owner n) (part-behind map i)
 pub place-inside : (owner n : ℕ) (map : List ℕ) (i r : ℕ) → i ≤ length map → r ≡ placeOf owner n (take (length map - i) (drop i map)) → i + r ≤ length map
 place-inside owner n map i r h e = omega (arith, rest-place owner n map i r e, place-most owner n (drop i map), length-drop i map)
 
+-- groups passed over, then smaller ones behind them, then entries
+module _ (map : List ℕ) (a b : ℕ) where
+  pub skip-inside : a ≤ length map → b ≤ length (take (length map - a) (drop a map)) → a + b ≤ length map
+  skip-inside h g = omega (arith, ap length (part-behind map a), length-drop a map)
+
+  pub skip-twice : (owner n m k r : ℕ) → a + placeOf owner m (drop a map) ≡ placeOf owner n map
+      → b + placeOf owner k (drop b (take (length map - a) (drop a map))) ≡ placeOf owner m (take (length map - a) (drop a map))
+      → r ≡ placeOf owner k (take (length map - (a + b)) (drop (a + b) map))
+      → a + b + r ≡ placeOf owner n map
+  skip-twice owner n m k r e f g =
+      let near : b + placeOf owner k (drop (a + b) map) ≡ placeOf owner m (drop a map) = rw (part-behind map a, drop-drop b a map) at f in
+      omega (arith, rest-place owner k map (a + b) r g)
+
 -- finding: the block itself, another of the owner's before it, one of another, the end
 module _ (owner n : ℕ) (map : List ℕ) (i : ℕ) where
   pub find-here : i < length map → getD map i 0 ≡ owner → n ≡ 0 → placeOf owner n (drop i map) ≡ 0

@@ -5,7 +5,7 @@ ghost use mathlib.Core.Path.{_≡_};
 ghost use Prim.Native.Nat.{_+_, _-_, _*_, _≤_, _<_, min};
 ghost use lib.Dec.{eqb, ltb, leb};
 ghost use mathlib.Core.Bool.{_&&_};
-ghost use lib.ListN.{length};
+ghost use lib.ListN.{length, drop};
 ghost use Rattle.numbers.specs.Bytes.{pick};
 ghost use Rattle.blocks.specs.Map.{blockSize, free, neededFor, freeMap, heldBy, freeIn, claimed, released, placeOf, nthBlock};
 ghost use Rattle.blocks.specs.Pool.{over, appended, appendedFrom, delivered};
@@ -15,6 +15,12 @@ pub struct BlockNumber(pub usize);
 
 // Whose a block is; FREE is nobody's.
 pub struct Owner(pub u8);
+
+// How many entries were passed, and how many of an owner's blocks still lie before the one looked for.
+struct Skipped {
+    from: usize,
+    left: usize,
+}
 
 // One of an owner's blocks, or that it has not so many.
 pub enum Found {
@@ -31,11 +37,15 @@ pub const BLOCK_COUNT: usize = 256;
 // The owner number of a free block.
 pub const FREE: u8 = 0;
 
+// Half the bytes of a block.
+const HALF: usize = 128;
+
 // Entries of the map that are counted at once: few enough for a count of one byte, so that sixteen of them are compared in one step.
 const GROUP: usize = 64;
 
-// Blocks that are delivered by calls one inside another: few enough for the processor to remember where each returns to.
-const AT_ONCE: usize = 16;
+// Entries of the map that are looked through one by one, or delivered by calls one inside another: few enough for the processor to
+// remember where each call returns to.
+const FEW: usize = 16;
 
 // The map in which every block is free.
 pub fn free_map() -> [u8; BLOCK_COUNT]
@@ -176,24 +186,35 @@ fn scan(map: &[u8], owner: u8, n: usize) -> usize
     i
 }
 
-// The same by groups: those before the block's group are counted, and only its own is gone through entry by entry.
-fn find_block(map: &[u8], owner: u8, n: usize) -> BlockNumber
-    ensures { λ r. ⌜ r .0 ≡ placeOf owner n (now (map .entry)) ⌝ }
+// Passes over groups of entries while the block looked for lies behind them.
+fn skip(map: &[u8], owner: u8, n: usize, group: usize) -> Skipped
+    requires { ⌜ (1 ≤ group) × (group ≤ 64) ⌝ }
+    ensures { λ r. ⌜ (r .from ≤ length (now (map .entry))) × (r .from + placeOf owner (r .left) (drop (r .from) (now (map .entry))) ≡ placeOf owner n (now (map .entry))) ⌝ }
 {
     let mut left = n;
     let mut from: usize = 0;
-    while GROUP <= map.len() - from {
-        let end = from + GROUP;
+    while group <= map.len() - from {
+        let end = from + group;
         let here = wide(count_group(&map[from..end], owner));
         if left < here {
-            let b = from + scan(&map[from..], owner, left);
-            return BlockNumber(b);
+            return Skipped { from, left };
         }
         left -= here;
         from = end;
     }
-    let b = from + scan(&map[from..], owner, left);
-    BlockNumber(b)
+    Skipped { from, left }
+}
+
+// The same as scan, by counting: only the last few entries are gone through one by one.
+fn find_block(map: &[u8], owner: u8, n: usize) -> BlockNumber
+    ensures { λ r. ⌜ r .0 ≡ placeOf owner n (now (map .entry)) ⌝ }
+{
+    let far = skip(map, owner, n, GROUP);
+    let a = far.from;
+    let near = skip(&map[a..], owner, far.left, FEW);
+    let b = a + near.from;
+    let found = b + scan(&map[b..], owner, near.left);
+    BlockNumber(found)
 }
 
 // An owner's block at the place n, from 0, in rising order.
@@ -215,14 +236,39 @@ fn starts_inside(ahead: usize, bytes: usize) -> bool
     ahead < blocks_needed(bytes)
 }
 
-// Puts bytes over others from a place on, as far as those go.
+// Copies at most a block by way of an array of its own. That lies apart from both, so the compiler makes one move of the two copies, with no test for overlap.
+fn copy_short(source: &[u8], target: &mut [u8])
+    requires { ⌜ (length (now source) ≤ 256) × (length (now target) ≡ length (now source)) ⌝ }
+    ensures { λ _. ⌜ now (target .exit) ≡ now (source .entry) ⌝ }
+{
+    let n = source.len();
+    let mut between = [0u8; BLOCK_SIZE];
+    bytes::copy(source, &mut between);
+    bytes::copy(&between[0..n], target);
+}
+
+// The same; a whole block goes in two halves, each small enough for the compiler to move it in place, with no call.
+fn copy_block(source: &[u8], target: &mut [u8])
+    requires { ⌜ (length (now source) ≤ 256) × (length (now target) ≡ length (now source)) ⌝ }
+    ensures { λ _. ⌜ now (target .exit) ≡ now (source .entry) ⌝ }
+{
+    if source.len() == BLOCK_SIZE {
+        copy_short(&source[0..HALF], &mut target[0..HALF]);
+        copy_short(&source[HALF..BLOCK_SIZE], &mut target[HALF..BLOCK_SIZE]);
+    } else {
+        copy_short(source, target);
+    }
+}
+
+// Puts bytes over others from a place on, as far as those go; no more than a block.
 fn overwrite(source: &[u8], at: usize, target: &mut [u8])
+    requires { ⌜ min (length (now source)) (length (now target)) ≤ 256 ⌝ }
     ensures { λ _. ⌜ now (target .exit) ≡ over at (now (source .entry)) (now (target .entry)) ⌝ }
 {
     if at < target.len() {
         let n = least(source.len(), target.len() - at);
         let end = at + n;
-        bytes::copy(&source[0..n], &mut target[at..end]);
+        copy_block(&source[0..n], &mut target[at..end]);
     }
 }
 
@@ -253,11 +299,16 @@ fn fill(map: &[u8], owner: u8, first: BlockNumber, at: usize, payload: &[u8], po
     }
 }
 
-// Puts a payload right behind the first `at` bytes of the owner's blocks, across their borders. The blocks before are found by counting, not gone through.
+// Puts a payload right behind the first `at` bytes of the owner's blocks, across their borders. The blocks before are found by counting, not gone through;
+// where there is none before, nothing is looked for: `fill` goes to the first block by itself.
 pub fn append(map: &[u8], owner: Owner, at: usize, payload: &[u8], pool: &mut [u8])
     ensures { λ _. ⌜ now (pool .exit) ≡ appended (owner .0) at (now (payload .entry)) (now (map .entry)) (now (pool .entry)) ⌝ }
 {
     let number = owner.0;
+    if at < BLOCK_SIZE {
+        fill(map, number, BlockNumber(0), at, payload, pool);
+        return;
+    }
     let place = at % BLOCK_SIZE;
     let b = find_block(map, number, at / BLOCK_SIZE);
     fill(map, number, b, place, payload, pool);
@@ -293,28 +344,36 @@ fn deliver_blocks(map: &[u8], owner: Owner, due: usize, pool: &[u8], out: &mut [
     }
 }
 
-// Writes the first `due` bytes of the owner's blocks to the front of out: some blocks one by one, and the rest by itself. Bytes still due fall.
+// Writes the first `due` bytes of the owner's blocks to the front of out: the blocks among a few entries of the map, and so on.
 pub fn deliver(map: &[u8], owner: Owner, due: usize, pool: &[u8], out: &mut [u8])
     ensures { λ _. ⌜ now (out .exit) ≡ delivered (owner .0) due (now (map .entry)) (now (pool .entry)) (now (out .entry)) ⌝ }
 {
-    let most = BLOCK_SIZE * AT_ONCE;
-    if due <= most {
-        deliver_blocks(map, owner, due, pool, out);
-        return;
+    let most = least(due, out.len());
+    let whole = least(map.len(), pool.len() / BLOCK_SIZE);
+    let mut from: usize = 0;
+    let mut done: usize = 0;
+    while FEW <= whole - from {
+        let next = from + FEW;
+        let here = BLOCK_SIZE * wide(count_group(&map[from..next], owner.0));
+        let n = least(here, most - done);
+        let start = BLOCK_SIZE * from;
+        let until = done + n;
+        deliver_blocks(
+            &map[from..next],
+            owner,
+            n,
+            &pool[start..],
+            &mut out[done..until],
+        );
+        done = until;
+        from = next;
     }
-    deliver_blocks(map, owner, most, pool, out);
-    if most < out.len() {
-        let b = find_block(map, owner.0, AT_ONCE);
-        let from = b.0;
-        if starts_inside(from, pool.len()) {
-            let start = BLOCK_SIZE * from;
-            deliver(
-                &map[from..],
-                owner,
-                due - most,
-                &pool[start..],
-                &mut out[most..],
-            );
-        }
-    }
+    let start = BLOCK_SIZE * from;
+    deliver_blocks(
+        &map[from..],
+        owner,
+        most - done,
+        &pool[start..],
+        &mut out[done..most],
+    );
 }

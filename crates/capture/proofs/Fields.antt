@@ -1,15 +1,17 @@
--- The sixteen field bytes, stored one by one and then as two numbers, are `fieldBytes` laid to the front.
+-- The sixteen field bytes, two numbers put from the back and then eight bytes stored one by one, are `fieldBytes` laid to the front.
 -- By the frame crate's laws of bytes laid piece by piece. Assumes nothing.
 use Prim.Native.Nat.{ℕ, _+_, _≤_}
-use mathlib.Core.Path.{_≡_, refl, ap, _∙_}
-use mathlib.Core.List.{List, [], _∷_, _++_}
+use mathlib.Core.Path.{_≡_, refl, ap, sym, _∙_}
+use mathlib.Core.List.{List, [], _∷_, _++_, append-assoc}
 use native.Mathlib.Omega.{arith}
-use lib.ListN.{length, set}
-use Rattle.numbers.specs.Bytes.{pick, putAt, laid}
-use Rattle.numbers.specs.Numbers.{bytesBe}
+use lib.ListN.{length, getD, take, drop, set, length-append}
+use lib.Seq.{drop-at, length-take-le}
+use Rattle.numbers.specs.Bytes.{part, pick, putAt, laid}
+use Rattle.numbers.specs.Numbers.{bytesBe, valueBe}
 use Rattle.numbers.proofs.Laws.{length-be, put-fits}
 use Rattle.frame.specs.declared.Header.{Header}
-use Rattle.frame.proofs.Buffers.{four-stored, laid-length, laid-more, pasted, message-put}
+use Rattle.frame.specs.Read.{frontOf, withMessage}
+use Rattle.frame.proofs.Buffers.{four-stored, pasted}
 use Rattle.capture.specs.Capture.{fieldBytes}
 
 -- eight bytes stored one by one
@@ -23,19 +25,40 @@ eight-stored (x ∷ []) a b c d e f g h l = absurd (omega arith)
 eight-stored (x ∷ y ∷ []) a b c d e f g h l = absurd (omega arith)
 eight-stored (x ∷ y ∷ z ∷ []) a b c d e f g h l = absurd (omega arith)
 
--- b is the flag's byte
-pub fields-put : (h : Header) (start b : ℕ) (o p q : List ℕ) → b ≡ pick (h .flag) 1 0 → 16 ≤ length o
-    → p ≡ putAt (stored o (h .version) b (h .kind) (h .service .0) (h .info) (h .session .0) start 0) 8 4 (bytesBe 4 (h .size))
-    → q ≡ putAt p 12 4 (bytesBe 4 (h .message .0))
-    → q ≡ laid (fieldBytes h start) o
-unfolding fieldBytes
-fields-put h start b o p q e l f g =
-    let a : List ℕ = h .version ∷ b ∷ h .kind ∷ h .service .0 ∷ h .info ∷ h .session .0 ∷ start ∷ 0 ∷ [] in
-    let n : List ℕ = bytesBe 4 (h .size) in
-    let m : List ℕ = bytesBe 4 (h .message .0) in
-    let eight = eight-stored o (h .version) b (h .kind) (h .service .0) (h .info) (h .session .0) start 0 (omega arith) in
-    let twelve : p ≡ laid (a ++ n) o = message-put a (h .size) o _ p refl (omega arith) eight f in
-    let long : length (a ++ n) ≡ 12 = rw (length-be 4 (h .size)) in
-    let room : 12 + 4 ≤ length p = rw (twelve, laid-length (a ++ n) o (omega arith)) l in
-    laid-more (a ++ n) m o p q 12 4 long (length-be 4 (h .message .0)) twelve (g ∙ put-fits p 12 4 m room ∙ pasted p m 12 4 (length-be 4 (h .message .0)))
-    ∙ rw e
+-- what stands from a place on where bytes were put
+put-behind : (d s : List ℕ) (at w : ℕ) → length s ≡ w → at + w ≤ length d → drop at (putAt d at w s) ≡ s ++ drop (at + w) d
+put-behind d s at w l h = rw (put-fits d at w s h, pasted d s at w l) (drop-at (take at d) (s ++ drop (at + w) d) at (length-take-le at d (omega arith)))
+
+-- the last bytes first, then those before them, then eight bytes in front of both
+all-put : (a b c d e f g h : ℕ) (n m o p q : List ℕ) → length n ≡ 4 → length m ≡ 4 → 16 ≤ length o → length p ≡ length o → length q ≡ length p
+    → p ≡ putAt o 12 4 m
+    → q ≡ putAt p 8 4 n
+    → stored q a b c d e f g h ≡ laid (a ∷ b ∷ c ∷ d ∷ e ∷ f ∷ g ∷ h ∷ (n ++ m)) o
+all-put a b c d e f g h n m o p q ln lm l lp lq u v =
+    let all : List ℕ = a ∷ b ∷ c ∷ d ∷ e ∷ f ∷ g ∷ h ∷ (n ++ m) in
+    let size : 16 ≡ length all = omega (arith, length-append n m) in
+    let last : drop 12 p ≡ m ++ drop 16 o = ap (drop 12) u ∙ put-behind o m 12 4 lm (omega arith) in
+    let rest : drop 8 q ≡ (n ++ m) ++ drop 16 o = ap (drop 8) v ∙ put-behind p n 8 4 ln (omega arith) ∙ rw (last, append-assoc) in
+    eight-stored q a b c d e f g h (omega arith)
+    ∙ ap (λ (t : List ℕ). a ∷ b ∷ c ∷ d ∷ e ∷ f ∷ g ∷ h ∷ t) rest
+    ∙ ap (λ (k : ℕ). all ++ drop k o) size
+
+-- a frame's bytes tell its service, info, session and size; b is the flag's byte
+pub fields-put : (s : List ℕ) (h : Header) (start b n : ℕ) (o p q : List ℕ) → h ≡ withMessage (frontOf s) (h .message) → b ≡ pick (h .flag) 1 0
+    → n ≡ valueBe (part s 4 4)
+    → 16 ≤ length o
+    → length p ≡ length o
+    → length q ≡ length p
+    → p ≡ putAt o 12 4 (bytesBe 4 (h .message .0))
+    → q ≡ putAt p 8 4 (bytesBe 4 n)
+    → stored q (h .version) b (h .kind) (getD s 1 0) (getD s 2 0) (getD s 3 0) start 0 ≡ laid (fieldBytes h start) o
+unfolding fieldBytes frontOf
+fields-put s h start b n o p q e f g l lp lq u v =
+    let service : h .service .0 ≡ getD s 1 0 = ap (λ (k : Header). k .service .0) e in
+    let info : h .info ≡ getD s 2 0 = ap (λ (k : Header). k .info) e in
+    let session : h .session .0 ≡ getD s 3 0 = ap (λ (k : Header). k .session .0) e in
+    let size : h .size ≡ n = ap (λ (k : Header). k .size) e ∙ sym g in
+    let same : h .version ∷ b ∷ h .kind ∷ getD s 1 0 ∷ getD s 2 0 ∷ getD s 3 0 ∷ start ∷ 0 ∷ (bytesBe 4 n ++ bytesBe 4 (h .message .0)) ≡ fieldBytes h start
+    = rw (f, service, info, session, size) in
+    all-put (h .version) b (h .kind) (getD s 1 0) (getD s 2 0) (getD s 3 0) start 0 (bytesBe 4 n) (bytesBe 4 (h .message .0)) o p q (length-be 4 n) (length-be 4 (h .message .0)) l lp lq u v
+    ∙ ap (λ (t : List ℕ). laid t o) same

@@ -5,6 +5,7 @@ ghost use mathlib.Core.Path.{_≡_};
 ghost use Prim.Native.Nat.{_^_, _≤_, _<_};
 ghost use lib.ListN.{length};
 ghost use Rattle.numbers.specs.Bytes.{pick, laid};
+ghost use Rattle.frame.specs.Read.{frontOf, withMessage};
 ghost use Rattle.capture.specs.Capture.{code, readingCode, writtenCode, ReadingFits, WrittenFits, fieldBytes, headerFrom, left, tilambokReadFrame, tilambokWriteHeader, tilambokWriteFrame};
 use frame::Header;
 use frame::MessageId;
@@ -58,21 +59,22 @@ fn flag_byte(flag: bool) -> u8
     if flag { 1 } else { 0 }
 }
 
-// The fields of a frame whose payload starts at start, to the front of fields.
-fn put_fields(header: Header, start: u8, fields: &mut [u8])
-    requires { ⌜ 16 ≤ length (now fields) ⌝ }
+// The fields of a frame whose payload starts at start, to the front of fields. What is in the bytes as it stands is copied from them and not from the
+// header, and the numbers come first: so the compiler stores each number at once and keeps no byte of the header for it.
+fn put_fields(bytes: &[u8], header: Header, start: u8, fields: &mut [u8])
+    requires { ⌜ (8 ≤ length (now bytes)) × ((16 ≤ length (now fields)) × (header ≡ withMessage (frontOf (now bytes)) (header .message))) ⌝ }
     ensures { λ _. ⌜ now (fields .exit) ≡ laid (fieldBytes header start) (now (fields .entry)) ⌝ }
 {
+    numbers::put_be4(fields, 12, header.message.0);
+    numbers::put_be4(fields, 8, numbers::be4(bytes, 4));
     fields[0] = header.version;
     fields[1] = flag_byte(header.flag);
     fields[2] = header.kind;
-    fields[3] = header.service.0;
-    fields[4] = header.info;
-    fields[5] = header.session.0;
+    fields[3] = bytes[1];
+    fields[4] = bytes[2];
+    fields[5] = bytes[3];
     fields[6] = start;
     fields[7] = 0;
-    numbers::put_be4(fields, 8, header.size);
-    numbers::put_be4(fields, 12, header.message.0);
 }
 
 // The header that a caller's numbers describe.
@@ -112,7 +114,7 @@ pub extern "C" fn tilambok_read_frame(bytes: &[u8], fields: &mut [u8]) -> u64
     if fields.len() < FIELDS {
         return reading_code(Reading::Refused(frame::refusal::OUT_TOO_SMALL));
     }
-    put_fields(header, extent.start as u8, fields);
+    put_fields(bytes, header, extent.start as u8, fields);
     reading_code(reading)
 }
 

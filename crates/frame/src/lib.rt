@@ -176,13 +176,15 @@ fn front(bytes: &[u8]) -> Header
     }
 }
 
+// The message id of a header that is there whole: its four bytes are lent alone, so that they are read with no test of the length.
 fn message_id(bytes: &[u8], version: u8) -> MessageId
+    requires { ⌜ headerSize version ≤ length (now bytes) ⌝ }
     ensures { λ r. ⌜ r ≡ messageOf (now (bytes .entry)) version ⌝ }
 {
     if version == 1 {
         return MessageId(0);
     }
-    MessageId(numbers::be4(bytes, 8))
+    MessageId(numbers::be4(&bytes[8..12], 0))
 }
 
 // What stands at the front of `bytes`. What follows the frame is not looked at.

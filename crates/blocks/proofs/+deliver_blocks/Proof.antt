@@ -49,7 +49,7 @@ deliver-blocks-returns : (t : ℕ) → deliver-blocks-lts.Need-returns (
   deliver-blocks-below t,
   deliver-blocks.Post,
 ) (deliver-blocks-at t) deliver-blocks.Post
-deliver-blocks-returns t c = let a = (c .before .before .before .before .args) in deliver-nothing (a .owner .0) (a .due) (a .map .now) (a .pool .now) (a .out .now) (c .if1 .taken)
+deliver-blocks-returns t c = let a = (c .before .before .before .before .args) in deliver-nothing (a .owner .0) (a .due) (a .map .now) (a .pool .now) (a .out .now) (omega arith)
 
 deliver-blocks-scan-requires : (t : ℕ) → deliver-blocks-lts.Need-scan-requires (
   scan-reads.Asked,

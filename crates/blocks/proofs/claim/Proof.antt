@@ -22,7 +22,7 @@ loop-holds : tie.Need-loop-holds Inv-loop μ-loop
 loop-holds c = (omega arith, (c .good .0 .1 .0 .1), refl)
 
 returns : tie.Need-returns Inv-loop μ-loop
-returns c = let l = (c .before .before .loop) in sym (claim-done _ (l .wanted) (l .after) (l .i) (c .if1 .taken)) ∙ l .inv .2
+returns c = let l = (c .before .before .loop) in sym (claim-done _ (l .wanted) (l .after) (l .i) (omega arith)) ∙ l .inv .2
 
 array-read-if2 : tie.Need-array-read-if2 Inv-loop μ-loop
 array-read-if2 c = search needs

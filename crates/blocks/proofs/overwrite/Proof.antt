@@ -16,32 +16,32 @@ least-requires c κs = search needs
 add-end : tie.Need-add-end
 add-end c = search needs
 
-sub-copy : tie.Need-sub-copy
-sub-copy c = search needs
+sub-copy-block : tie.Need-sub-copy-block
+sub-copy-block c = search needs
 
-part-copy-start : tie.Need-part-copy-start
-part-copy-start c = search needs
+part-copy-block-start : tie.Need-part-copy-block-start
+part-copy-block-start c = search needs
 
-part-copy-end : tie.Need-part-copy-end
-part-copy-end c = search needs
+part-copy-block-end : tie.Need-part-copy-block-end
+part-copy-block-end c = search needs
 
-sub-copy-2 : tie.Need-sub-copy-2
-sub-copy-2 c = search needs
+sub-copy-block-2 : tie.Need-sub-copy-block-2
+sub-copy-block-2 c = search needs
 
-part-copy-start-2 : tie.Need-part-copy-start-2
-part-copy-start-2 c = search needs
+part-copy-block-start-2 : tie.Need-part-copy-block-start-2
+part-copy-block-start-2 c = search needs
 
-part-copy-end-2 : tie.Need-part-copy-end-2
-part-copy-end-2 c = search needs
+part-copy-block-end-2 : tie.Need-part-copy-block-end-2
+part-copy-block-end-2 c = search needs
 
-copy-requires : tie.Need-copy-requires
-copy-requires c κs = search needs
+copy-block-requires : tie.Need-copy-block-requires
+copy-block-requires c κs = search needs
 
 same-length : tie.Need-same-length
 same-length c = search needs
 
 returns : tie.Need-returns
-returns c = let a = (c .before .before .before .before .before .before .before .before .before .args) in overwritten (a .source .now) (a .target .now) _ (a .at) (c .before .before .before .before .before .least .result) (c .before .before .before .before .before .before .if1 .taken) (c .before .before .before .before .before .least .ensures) (c .before .before .copy .ensures .1)
+returns c = let a = (c .before .before .before .before .before .before .before .before .before .args) in overwritten (a .source .now) (a .target .now) _ (a .at) (c .before .before .before .before .before .least .result) (c .before .before .before .before .before .before .if1 .taken) (c .before .before .before .before .before .least .ensures) (c .before .before .copy-block .ensures)
 
 returns-2 : tie.Need-returns-2
 returns-2 c = let a = (c .before .before .before .args) in sym (over-past (a .at) (a .source .now) (a .target .now) (c .if1 .left))
@@ -53,13 +53,13 @@ overwrite-spec =
     sub-least
     least-requires
     add-end
-    sub-copy
-    part-copy-start
-    part-copy-end
-    sub-copy-2
-    part-copy-start-2
-    part-copy-end-2
-    copy-requires
+    sub-copy-block
+    part-copy-block-start
+    part-copy-block-end
+    sub-copy-block-2
+    part-copy-block-start-2
+    part-copy-block-end-2
+    copy-block-requires
     same-length
     returns
     returns-2)

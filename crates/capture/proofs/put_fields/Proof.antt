@@ -1,4 +1,4 @@
--- `capture::put_fields` meets its contract. Eight bytes are stored and two numbers put behind them: `Fields` has that as one law.
+-- `capture::put_fields` meets its contract. Two numbers are put and eight bytes stored before them: `Fields` has that as one law.
 -- Assumes nothing.
 use mathlib.Core.Path.{_∙_}
 use native.Mathlib.Omega.{arith}
@@ -7,6 +7,15 @@ use Rattle.capture.proofs.Fields.{fields-put}
 use borrow.Author.Needs.{needs}
 use Rattle.capture.proofs.put_fields.Statement.{statement}
 use Rattle.capture.proofs.put_fields.Tie as tie
+
+put-be4-requires : tie.Need-put-be4-requires
+put-be4-requires c κs = search needs
+
+be4-requires : tie.Need-be4-requires
+be4-requires c κs = search needs
+
+put-be4-requires-2 : tie.Need-put-be4-requires-2
+put-be4-requires-2 c κs = search needs
 
 slice-write-fields : tie.Need-slice-write-fields
 slice-write-fields c = search needs
@@ -20,11 +29,20 @@ slice-write-fields-2 c = simp length-set (omega arith)
 slice-write-fields-3 : tie.Need-slice-write-fields-3
 slice-write-fields-3 c = simp length-set (omega arith)
 
+shared-slice-read-fields : tie.Need-shared-slice-read-fields
+shared-slice-read-fields c = search needs
+
 slice-write-fields-4 : tie.Need-slice-write-fields-4
 slice-write-fields-4 c = simp length-set (omega arith)
 
+shared-slice-read-fields-2 : tie.Need-shared-slice-read-fields-2
+shared-slice-read-fields-2 c = search needs
+
 slice-write-fields-5 : tie.Need-slice-write-fields-5
 slice-write-fields-5 c = simp length-set (omega arith)
+
+shared-slice-read-fields-3 : tie.Need-shared-slice-read-fields-3
+shared-slice-read-fields-3 c = search needs
 
 slice-write-fields-6 : tie.Need-slice-write-fields-6
 slice-write-fields-6 c = simp length-set (omega arith)
@@ -35,34 +53,32 @@ slice-write-fields-7 c = simp length-set (omega arith)
 slice-write-fields-8 : tie.Need-slice-write-fields-8
 slice-write-fields-8 c = simp length-set (omega arith)
 
-put-be4-requires : tie.Need-put-be4-requires
-put-be4-requires c κs = search needs
-
-put-be4-requires-2 : tie.Need-put-be4-requires-2
-put-be4-requires-2 c κs = search needs
-
 same-length : tie.Need-same-length
-same-length c = (c .before .before .put-be42 .kept .0) ∙ (c .before .before .before .before .before .before .put-be4 .kept .0) ∙ simp length-set
+same-length c = simp length-set ((c .before .before .before .before .before .before .put-be42 .kept .0) ∙ (c .before .before .before .before .before .before .before .before .before .before .before .put-be4 .kept .0))
 
 returns : tie.Need-returns
 returns c =
-    let a = (c .before .before .before .before .before .before .before .before .before .before .args) in
-    fields-put (a .header) (a .start) (c .before .before .before .before .before .before .before .before .flag-byte .result) (a .fields .now) _ _ (c .before .before .before .before .before .before .before .before .flag-byte .ensures) (c .before .before .before .before .before .before .before .before .before .before .pre) (c .before .before .before .before .before .before .put-be4 .ensures) (c .before .before .put-be42 .ensures)
+    let a = (c .before .before .before .before .before .before .before .before .before .before .before .before .before .before .before .args) in
+    fields-put (a .bytes .now) (a .header) (a .start) (c .before .before .before .flag-byte .result) (c .before .before .before .before .before .before .before .be4 .result) (a .fields .now) _ _ ((c .before .before .before .before .before .before .before .before .before .before .before .before .before .before .before .pre) .1 .1) (c .before .before .before .flag-byte .ensures) (c .before .before .before .before .before .before .before .be4 .ensures) ((c .before .before .before .before .before .before .before .before .before .before .before .before .before .before .before .pre) .1 .0) (c .before .before .before .before .before .before .before .before .before .before .before .put-be4 .kept .0) (c .before .before .before .before .before .before .put-be42 .kept .0) (c .before .before .before .before .before .before .before .before .before .before .before .put-be4 .ensures) (c .before .before .before .before .before .before .put-be42 .ensures)
 
 pub put-fields-spec : {M : Type 1} → statement M
 put-fields-spec =
     tie.close
     (tie.spec
+    put-be4-requires
+    be4-requires
+    put-be4-requires-2
     slice-write-fields
     flag-byte-requires
     slice-write-fields-2
     slice-write-fields-3
+    shared-slice-read-fields
     slice-write-fields-4
+    shared-slice-read-fields-2
     slice-write-fields-5
+    shared-slice-read-fields-3
     slice-write-fields-6
     slice-write-fields-7
     slice-write-fields-8
-    put-be4-requires
-    put-be4-requires-2
     same-length
     returns)

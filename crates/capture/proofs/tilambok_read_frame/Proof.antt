@@ -13,6 +13,7 @@ use denote.Enum.Declared.{tagOf}
 use Rattle.frame.proofs.Reading.{the-type}
 use Rattle.frame.specs.declared.Header.{Header}
 use Rattle.frame.specs.declared.Extent.{Extent}
+use Rattle.frame.proofs.Answers.{is-frame, header-front}
 use Rattle.frame.specs.declared.Reading.{Reading}
 use Rattle.frame.specs.declared.Reading.the-variants.{Frame, Refused, Short}
 use Rattle.capture.specs.Capture.{readingCode, ReadingFits, fieldBytes, left, leftBy, heard}
@@ -59,7 +60,9 @@ cast-put-fields : tie.Need-cast-put-fields
 cast-put-fields c = omega (arith, subst ReadingFits (sym (c .before .before .before .before .before .read .ensures) ∙ (c .before .before .before .reading .given .1)) (reading-fits (c .before .before .before .before .before .before .before .before .args .bytes .now)))
 
 put-fields-requires : tie.Need-put-fields-requires
-put-fields-requires c κs = omega arith
+put-fields-requires c κs =
+    let p = sym (c .before .before .before .before .before .before .read .ensures) ∙ (c .before .before .before .before .reading .given .1) in
+    (is-frame _ _ _ p .long, (omega arith, header-front _ _ _ p))
 
 reading-code-requires-3 : tie.Need-reading-code-requires-3
 reading-code-requires-3 c κs = subst ReadingFits (sym (c .before .before .before .before .before .before .before .before .before .read .ensures) ∙ (c .before .before .before .before .before .before .before .reading .given .1)) (reading-fits (c .before .before .before .before .before .before .before .before .before .before .before .before .args .bytes .now))

@@ -1,6 +1,7 @@
 -- `frame::fault` meets its contract: each return by the tests before it, which hold, and its own, which fails.
 -- Assumes nothing.
 use borrow.Author.Tests.{le-leb, lt-leb, not-true, not-false}
+use native.Mathlib.Omega.{arith}
 use mathlib.Core.Path.{sym, _∙_}
 use Rattle.frame.specs.Rules.{faultOf}
 use borrow.Author.Needs.{needs}
@@ -16,39 +17,39 @@ returns c = rw ((sym (c .before .known-version .ensures) ∙ not-true (c .before
 
 returns-2 : tie.Need-returns-2
 unfolding faultOf
-returns-2 c = rw ((sym (c .before .before .before .known-version .ensures) ∙ not-false (c .before .before .before .known-version .result) (c .before .before .if1 .left)), lt-leb _ _ (c .if2 .taken))
+returns-2 c = rw ((sym (c .before .before .before .known-version .ensures) ∙ not-false (c .before .before .before .known-version .result) (c .before .before .if1 .left)), lt-leb (c .before .before .before .before .args .header .kind) 3 (omega arith))
 
 listed-service-requires : tie.Need-listed-service-requires
 listed-service-requires c κs = search needs
 
 returns-3 : tie.Need-returns-3
 unfolding faultOf
-returns-3 c = rw ((sym (c .before .before .before .before .before .known-version .ensures) ∙ not-false (c .before .before .before .before .before .known-version .result) (c .before .before .before .before .if1 .left)), le-leb _ _ (c .before .before .if2 .left), (sym (c .before .listed-service .ensures) ∙ not-true (c .before .listed-service .result) (c .if3 .taken)))
+returns-3 c = rw ((sym (c .before .before .before .before .before .known-version .ensures) ∙ not-false (c .before .before .before .before .before .known-version .result) (c .before .before .before .before .if1 .left)), le-leb (c .before .before .before .before .before .before .args .header .kind) 3 (omega arith), (sym (c .before .listed-service .ensures) ∙ not-true (c .before .listed-service .result) (c .if3 .taken)))
 
 info-fits-requires : tie.Need-info-fits-requires
 info-fits-requires c κs = search needs
 
 returns-4 : tie.Need-returns-4
 unfolding faultOf
-returns-4 c = rw ((sym (c .before .before .before .before .before .before .before .known-version .ensures) ∙ not-false (c .before .before .before .before .before .before .before .known-version .result) (c .before .before .before .before .before .before .if1 .left)), le-leb _ _ (c .before .before .before .before .if2 .left), (sym (c .before .before .before .listed-service .ensures) ∙ not-false (c .before .before .before .listed-service .result) (c .before .before .if3 .left)), (sym (c .before .info-fits .ensures) ∙ not-true (c .before .info-fits .result) (c .if4 .taken)))
+returns-4 c = rw ((sym (c .before .before .before .before .before .before .before .known-version .ensures) ∙ not-false (c .before .before .before .before .before .before .before .known-version .result) (c .before .before .before .before .before .before .if1 .left)), le-leb (c .before .before .before .before .before .before .before .before .args .header .kind) 3 (omega arith), (sym (c .before .before .before .listed-service .ensures) ∙ not-false (c .before .before .before .listed-service .result) (c .before .before .if3 .left)), (sym (c .before .info-fits .ensures) ∙ not-true (c .before .info-fits .result) (c .if4 .taken)))
 
 flag-fits-requires : tie.Need-flag-fits-requires
 flag-fits-requires c κs = search needs
 
 returns-5 : tie.Need-returns-5
 unfolding faultOf
-returns-5 c = rw ((sym (c .before .before .before .before .before .before .before .before .before .known-version .ensures) ∙ not-false (c .before .before .before .before .before .before .before .before .before .known-version .result) (c .before .before .before .before .before .before .before .before .if1 .left)), le-leb _ _ (c .before .before .before .before .before .before .if2 .left), (sym (c .before .before .before .before .before .listed-service .ensures) ∙ not-false (c .before .before .before .before .before .listed-service .result) (c .before .before .before .before .if3 .left)), (sym (c .before .before .before .info-fits .ensures) ∙ not-false (c .before .before .before .info-fits .result) (c .before .before .if4 .left)), (sym (c .before .flag-fits .ensures) ∙ not-true (c .before .flag-fits .result) (c .if5 .taken)))
+returns-5 c = rw ((sym (c .before .before .before .before .before .before .before .before .before .known-version .ensures) ∙ not-false (c .before .before .before .before .before .before .before .before .before .known-version .result) (c .before .before .before .before .before .before .before .before .if1 .left)), le-leb (c .before .before .before .before .before .before .before .before .before .before .args .header .kind) 3 (omega arith), (sym (c .before .before .before .before .before .listed-service .ensures) ∙ not-false (c .before .before .before .before .before .listed-service .result) (c .before .before .before .before .if3 .left)), (sym (c .before .before .before .info-fits .ensures) ∙ not-false (c .before .before .before .info-fits .result) (c .before .before .if4 .left)), (sym (c .before .flag-fits .ensures) ∙ not-true (c .before .flag-fits .result) (c .if5 .taken)))
 
 size-fits-requires : tie.Need-size-fits-requires
 size-fits-requires c κs = search needs
 
 returns-6 : tie.Need-returns-6
 unfolding faultOf
-returns-6 c = rw ((sym (c .before .before .before .before .before .before .before .before .before .before .before .known-version .ensures) ∙ not-false (c .before .before .before .before .before .before .before .before .before .before .before .known-version .result) (c .before .before .before .before .before .before .before .before .before .before .if1 .left)), le-leb _ _ (c .before .before .before .before .before .before .before .before .if2 .left), (sym (c .before .before .before .before .before .before .before .listed-service .ensures) ∙ not-false (c .before .before .before .before .before .before .before .listed-service .result) (c .before .before .before .before .before .before .if3 .left)), (sym (c .before .before .before .before .before .info-fits .ensures) ∙ not-false (c .before .before .before .before .before .info-fits .result) (c .before .before .before .before .if4 .left)), (sym (c .before .before .before .flag-fits .ensures) ∙ not-false (c .before .before .before .flag-fits .result) (c .before .before .if5 .left)), (sym (c .before .size-fits .ensures) ∙ not-true (c .before .size-fits .result) (c .if6 .taken)))
+returns-6 c = rw ((sym (c .before .before .before .before .before .before .before .before .before .before .before .known-version .ensures) ∙ not-false (c .before .before .before .before .before .before .before .before .before .before .before .known-version .result) (c .before .before .before .before .before .before .before .before .before .before .if1 .left)), le-leb (c .before .before .before .before .before .before .before .before .before .before .before .before .args .header .kind) 3 (omega arith), (sym (c .before .before .before .before .before .before .before .listed-service .ensures) ∙ not-false (c .before .before .before .before .before .before .before .listed-service .result) (c .before .before .before .before .before .before .if3 .left)), (sym (c .before .before .before .before .before .info-fits .ensures) ∙ not-false (c .before .before .before .before .before .info-fits .result) (c .before .before .before .before .if4 .left)), (sym (c .before .before .before .flag-fits .ensures) ∙ not-false (c .before .before .before .flag-fits .result) (c .before .before .if5 .left)), (sym (c .before .size-fits .ensures) ∙ not-true (c .before .size-fits .result) (c .if6 .taken)))
 
 returns-7 : tie.Need-returns-7
 unfolding faultOf
-returns-7 c = rw ((sym (c .before .before .before .before .before .before .before .before .before .before .before .known-version .ensures) ∙ not-false (c .before .before .before .before .before .before .before .before .before .before .before .known-version .result) (c .before .before .before .before .before .before .before .before .before .before .if1 .left)), le-leb _ _ (c .before .before .before .before .before .before .before .before .if2 .left), (sym (c .before .before .before .before .before .before .before .listed-service .ensures) ∙ not-false (c .before .before .before .before .before .before .before .listed-service .result) (c .before .before .before .before .before .before .if3 .left)), (sym (c .before .before .before .before .before .info-fits .ensures) ∙ not-false (c .before .before .before .before .before .info-fits .result) (c .before .before .before .before .if4 .left)), (sym (c .before .before .before .flag-fits .ensures) ∙ not-false (c .before .before .before .flag-fits .result) (c .before .before .if5 .left)), (sym (c .before .size-fits .ensures) ∙ not-false (c .before .size-fits .result) (c .if6 .left)))
+returns-7 c = rw ((sym (c .before .before .before .before .before .before .before .before .before .before .before .known-version .ensures) ∙ not-false (c .before .before .before .before .before .before .before .before .before .before .before .known-version .result) (c .before .before .before .before .before .before .before .before .before .before .if1 .left)), le-leb (c .before .before .before .before .before .before .before .before .before .before .before .before .args .header .kind) 3 (omega arith), (sym (c .before .before .before .before .before .before .before .listed-service .ensures) ∙ not-false (c .before .before .before .before .before .before .before .listed-service .result) (c .before .before .before .before .before .before .if3 .left)), (sym (c .before .before .before .before .before .info-fits .ensures) ∙ not-false (c .before .before .before .before .before .info-fits .result) (c .before .before .before .before .if4 .left)), (sym (c .before .before .before .flag-fits .ensures) ∙ not-false (c .before .before .before .flag-fits .result) (c .before .before .if5 .left)), (sym (c .before .size-fits .ensures) ∙ not-false (c .before .size-fits .result) (c .if6 .left)))
 
 pub fault-spec : {M : Type 1} → statement M
 fault-spec =

@@ -1,6 +1,11 @@
--- `frame::message_id` meets its contract: each return by its test.
+-- `frame::message_id` meets its contract: each return by its test; the four bytes that are lent are all of their part.
 -- Assumes nothing.
+use Prim.Native.Nat.{_≤_}
 use borrow.Author.Tests.{eq-eqb, ne-eqb}
+use native.Mathlib.Omega.{arith}
+use lib.ListN.{drop}
+use lib.Seq.{take-take}
+use Rattle.frame.specs.Rules.{headerSize}
 use Rattle.frame.specs.Read.{messageOf}
 use borrow.Author.Needs.{needs}
 use Rattle.frame.proofs.message_id.Statement.{statement}
@@ -10,12 +15,24 @@ returns : tie.Need-returns
 unfolding messageOf
 returns c = rw (eq-eqb _ _ (c .if1 .taken))
 
+sub-be4 : tie.Need-sub-be4
+sub-be4 c = search needs
+
+part-be4-start : tie.Need-part-be4-start
+part-be4-start c = search needs
+
+part-be4-end : tie.Need-part-be4-end
+unfolding headerSize
+part-be4-end c = rw (ne-eqb _ _ (c .if1 .left)) at (c .before .before .pre)
+
 be4-requires : tie.Need-be4-requires
 be4-requires c κs = search needs
 
 returns-2 : tie.Need-returns-2
 unfolding messageOf
-returns-2 c = rw (ne-eqb _ _ (c .before .if1 .left), ← (c .be4 .ensures))
+returns-2 c =
+    let all = take-take 4 4 (drop 8 (c .before .before .before .before .args .bytes .now)) (omega arith) in
+    rw (ne-eqb _ _ (c .before .before .if1 .left), ← all, ← (c .be4 .ensures))
 
 pub message-id-spec : {M : Type 1} → statement M
-message-id-spec = tie.close (tie.spec returns be4-requires returns-2)
+message-id-spec = tie.close (tie.spec returns sub-be4 part-be4-start part-be4-end be4-requires returns-2)

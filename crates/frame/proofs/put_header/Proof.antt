@@ -62,7 +62,7 @@ returns c =
     let h = (c .before .before .before .before .before .before .before .before .before .before .args .header) in
     let o = (c .before .before .before .before .before .before .before .before .before .before .args .out .now) in
     let l : 8 ≤ length o = omega (arith, header-range (h .version), (c .before .before .before .before .before .before .before .before .before .before .pre .1)) in
-    header-one h (c .before .before .before .before .before .before .before .flag-bit .result) o _ (c .before .before .before .before .before .before .before .flag-bit .ensures) (c .if1 .taken)
+    header-one h (c .before .before .before .before .before .before .before .flag-bit .result) o _ (c .before .before .before .before .before .before .before .flag-bit .ensures) (omega (arith, version-range (h .version) (fault-none h (c .before .before .before .before .before .before .before .before .before .before .pre .0) .version)))
     (front-put (h .version * 16 + (c .before .before .before .before .before .before .before .flag-bit .result) + h .kind) (h .service .0) (h .info) (h .session .0) (h .size) o _ l (c .before .before .before .before .put-be4 .ensures))
 
 put-be4-requires-2 : tie.Need-put-be4-requires-2
@@ -77,8 +77,9 @@ returns-2 c =
     let h = (c .before .before .before .before .before .before .before .before .before .before .before .before .before .before .args .header) in
     let o = (c .before .before .before .before .before .before .before .before .before .before .before .before .before .before .args .out .now) in
     let l : 8 ≤ length o = omega (arith, header-range (h .version), (c .before .before .before .before .before .before .before .before .before .before .before .before .before .before .pre .1)) in
-    let z : headerSize (h .version) ≡ 12 = rw (ne-eqb _ _ (c .before .before .before .before .if1 .left)) in
-    header-more h (c .before .before .before .before .before .before .before .before .before .before .before .flag-bit .result) o _ (c .before .before .before .before .before .before .before .before .before .before .before .flag-bit .ensures) (c .before .before .before .before .if1 .left)
+    let more : h .version ≡ 1 → ⊥ = λ e. omega arith in
+    let z : headerSize (h .version) ≡ 12 = rw (ne-eqb (h .version) 1 more) in
+    header-more h (c .before .before .before .before .before .before .before .before .before .before .before .flag-bit .result) o _ (c .before .before .before .before .before .before .before .before .before .before .before .flag-bit .ensures) more
     (message-put ((h .version * 16 + (c .before .before .before .before .before .before .before .before .before .before .before .flag-bit .result) + h .kind) ∷ h .service .0 ∷ h .info ∷ h .session .0 ∷ bytesBe 4 (h .size)) (h .message .0) o _ _ (rw (length-be 4 (h .size))) (omega (arith, (c .before .before .before .before .before .before .before .before .before .before .before .before .before .before .pre .1)))
     (front-put (h .version * 16 + (c .before .before .before .before .before .before .before .before .before .before .before .flag-bit .result) + h .kind) (h .service .0) (h .info) (h .session .0) (h .size) o _ l (c .before .before .before .before .before .before .before .before .put-be4 .ensures)) (c .before .before .put-be42 .ensures))
 

@@ -20,7 +20,7 @@ fault-requires c κs = search needs
 
 returns-2 : tie.Need-returns-2
 unfolding readOf
-returns-2 c = rw (le-leb _ _ (c .before .before .before .if1 .left), ← (c .before .before .front .ensures), ← (c .before .fault .ensures), ne-eqb _ _ (c .if2 .taken))
+returns-2 c = rw (le-leb _ _ (c .before .before .before .if1 .left), ← (c .before .before .front .ensures), ← (c .before .fault .ensures), ne-eqb (c .before .fault .result) 0 (λ e. omega arith))
 
 header-size-requires : tie.Need-header-size-requires
 header-size-requires c κs = search needs
@@ -36,7 +36,7 @@ unfolding readOf
 returns-3 c = rw (le-leb _ _ (c .before .before .before .before .before .before .if1 .left), ← (c .before .before .before .before .before .front .ensures), ← (c .before .before .before .before .fault .ensures), eq-eqb _ _ (c .before .before .before .if2 .left), ← (c .before .before .header-size .ensures), lt-leb _ _ (c .if3 .taken))
 
 message-id-requires : tie.Need-message-id-requires
-message-id-requires c κs = search needs
+message-id-requires c κs = omega (arith, (c .before .before .header-size .ensures))
 
 returns-4 : tie.Need-returns-4
 unfolding readOf

@@ -20,11 +20,11 @@ returns-3 c = rw (le-leb 1 (c .before .before .before .args .total) (omega arith
 
 returns-4 : tie.Need-returns-4
 unfolding totalsFit
-returns-4 c = rw (le-leb 1 (c .before .before .before .before .args .total) (omega arith), le-leb _ _ (c .before .before .if2 .left), le-leb 1 (c .before .before .before .before .args .count) (omega arith), lt-leb _ _ (c .if4 .taken))
+returns-4 c = rw (le-leb 1 (c .before .before .before .before .args .total) (omega arith), le-leb _ _ (c .before .before .if2 .left), le-leb 1 (c .before .before .before .before .args .count) (omega arith), lt-leb (c .before .before .before .before .args .count) 256 (omega arith))
 
 returns-5 : tie.Need-returns-5
 unfolding totalsFit
-returns-5 c = rw (le-leb 1 (c .before .before .before .before .args .total) (omega arith), le-leb _ _ (c .before .before .if2 .left), le-leb 1 (c .before .before .before .before .args .count) (omega arith), le-leb _ _ (c .if4 .left))
+returns-5 c = rw (le-leb 1 (c .before .before .before .before .args .total) (omega arith), le-leb _ _ (c .before .before .if2 .left), le-leb 1 (c .before .before .before .before .args .count) (omega arith), le-leb (c .before .before .before .before .args .count) 256 (omega arith))
 
 pub totals-fit-spec : {M : Type 1} → statement M
 totals-fit-spec = tie.close (tie.spec returns returns-2 returns-3 returns-4 returns-5)

@@ -25,7 +25,9 @@ cast-if2 c = search needs
 
 returns-2 : tie.Need-returns-2
 unfolding writeOf
-returns-2 c = rw (← (c .before .before .before .fault .ensures), eq-eqb _ _ (c .before .before .if1 .left), ne-eqb _ _ (c .if2 .taken))
+returns-2 c =
+    let a = (c .before .before .before .before .before .before .args) in
+    rw (← (c .before .before .before .fault .ensures), eq-eqb _ _ (c .before .before .if1 .left), ne-eqb (a .header .size) (length (a .payload .now)) (λ e. omega arith))
 
 header-size-requires : tie.Need-header-size-requires
 header-size-requires c κs = search needs
@@ -35,7 +37,9 @@ add-end c = omega (arith, (c .header-size .ensures), header-range (c .before .be
 
 returns-3 : tie.Need-returns-3
 unfolding writeOf
-returns-3 c = rw (← (c .before .before .before .before .before .fault .ensures), eq-eqb _ _ (c .before .before .before .before .if1 .left), eq-eqb _ _ (c .before .before .if2 .left), frame-length (c .before .before .before .before .before .before .before .before .args .header) (c .before .before .before .before .before .before .before .before .args .payload .now), ← (c .before .header-size .ensures), lt-leb _ _ (c .if3 .taken))
+returns-3 c =
+    let a = (c .before .before .before .before .before .before .before .before .args) in
+    rw (← (c .before .before .before .before .before .fault .ensures), eq-eqb _ _ (c .before .before .before .before .if1 .left), eq-eqb (a .header .size) (length (a .payload .now)) (omega arith), frame-length (a .header) (a .payload .now), ← (c .before .header-size .ensures), lt-leb ((c .before .header-size .result) + length (a .payload .now)) (length (a .out .now)) (omega arith))
 
 put-header-requires : tie.Need-put-header-requires
 put-header-requires c κs = (sym (c .before .before .before .before .before .before .fault .ensures) ∙ (c .before .before .before .before .before .if1 .left), rw (← (c .before .before .header-size .ensures)) (omega arith))
@@ -61,7 +65,7 @@ returns-4 c =
     let a = (c .before .before .before .before .before .before .before .before .before .before .before .before .before .before .before .before .args) in
     ap (wrote (Bytes ((c .before .before .before .before .before .before .before .before .before .header-size .result) + length (a .payload .now))))
     (payload-put (headerBytes (a .header)) (a .payload .now) (a .out .now) _ _ _ (c .before .before .before .before .before .before .before .before .before .header-size .result) (header-length (a .header) ∙ sym (c .before .before .before .before .before .before .before .before .before .header-size .ensures)) (c .before .before .before .before .before .before .before .before .if3 .left) (c .before .before .before .before .before .before .put-header .ensures) (c .before .before .copy .ensures .1) refl)
-    ∙ rw (← (c .before .before .before .before .before .before .before .before .before .before .before .before .before .fault .ensures), eq-eqb _ _ (c .before .before .before .before .before .before .before .before .before .before .before .before .if1 .left), eq-eqb _ _ (c .before .before .before .before .before .before .before .before .before .before .if2 .left), frame-length (a .header) (a .payload .now), ← (c .before .before .before .before .before .before .before .before .before .header-size .ensures), le-leb _ _ (c .before .before .before .before .before .before .before .before .if3 .left))
+    ∙ rw (← (c .before .before .before .before .before .before .before .before .before .before .before .before .before .fault .ensures), eq-eqb _ _ (c .before .before .before .before .before .before .before .before .before .before .before .before .if1 .left), eq-eqb (a .header .size) (length (a .payload .now)) (omega arith), frame-length (a .header) (a .payload .now), ← (c .before .before .before .before .before .before .before .before .before .header-size .ensures), le-leb _ _ (c .before .before .before .before .before .before .before .before .if3 .left))
 
 pub write-spec : {M : Type 1} → statement M
 write-spec =
