@@ -42,7 +42,7 @@ module _ (v : ℕ) (service : ServiceType) (info session : ℕ) (payload : List 
   abbrev pub meant : ℕ → Header
   meant message = replyHeader v service info session (length payload) (pick (eqb v 1) 0 message)
 
-  reply-sound : (message : ℕ) → faultOf (replyHeader v service info session (length payload) message) ≡ 0
+  pub reply-sound : (message : ℕ) → faultOf (replyHeader v service info session (length payload) message) ≡ 0
   unfolding flagFits sizeFits
   reply-sound message =
       no-fault (replyHeader v service info session (length payload) message) (record {
@@ -99,7 +99,7 @@ module _ (v : ℕ) (service : ServiceType) (info session : ℕ) (payload : List 
             ∙ laid-arrives h payload (bytes ++ behind) (reply-sound v service info session payload least most listed fits short (h .message .0)) refl low one .payload;
       }
 
-rpc-listed : listedService rpc ≡ true
+pub rpc-listed : listedService rpc ≡ true
 unfolding listedService
 rpc-listed = refl
 

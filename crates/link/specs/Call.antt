@@ -107,7 +107,7 @@ saidBy (payload.Accepted t) = record { readable = true; found = t .hash .found; 
 saidBy (payload.Refused n) = record { readable = false; found = false; hash = 0 }
 
 unfoldable pub saidOf : Row → List ℕ → Said
-saidOf r p = pick (eqb (r .version) 5) (saidBy (payloadOf p)) (record { readable = true; found = eqb (length p) 4; hash = valueBe p })
+saidOf r p = pick (eqb (r .version) 5) (saidBy (payloadOf p)) (record { readable = true; found = eqb (length p) 4; hash = valueBe (part p 0 4) })
 
 -- the decision on a frame of row i: 13 to 17, then a control frame or content
 unfoldable pub decisionOf : Link → ℕ → Header → List ℕ → ℕ → Act

@@ -1,0 +1,40 @@
+-- `headunit::put_front` meets its contract.
+-- Assumes nothing.
+use Rattle.headunit.proofs.Laws.{front-put}
+use mathlib.Core.Path.{refl}
+use borrow.Author.Needs.{needs}
+use Rattle.headunit.proofs.put_front.Statement.{statement}
+use Rattle.headunit.proofs.put_front.Tie as tie
+use Rattle.headunit.proofs.put_front.Reads as reads
+use Rattle.headunit.proofs.put_front.Lts as lts
+use Rattle.bytes.proofs.copy.Reads as copy-reads
+
+-- src/lib.rt:111:24
+sub-copy : tie.Need-sub-copy
+sub-copy c = search needs
+
+-- src/lib.rt:111:24
+part-copy-start : tie.Need-part-copy-start
+part-copy-start c = search needs
+
+-- src/lib.rt:111:24
+part-copy-end : tie.Need-part-copy-end
+part-copy-end c = search needs
+
+-- src/lib.rt:111:5
+copy-requires : tie.Need-copy-requires
+copy-requires c κs = search needs
+
+-- src/lib.rt:106:1
+same-length : tie.Need-same-length
+same-length c = search needs
+
+-- src/lib.rt:106:1
+returns : tie.Need-returns
+returns c =
+    let a = (c .before .before .before .before .before .before .args) in
+    front-put (a .bytes .now) (a .out .now) _ _ (c .before .before .before .before .before .before .pre) (c .before .before .copy .ensures .1) refl
+
+pub put-front-spec : {M : Type 1} → statement M
+put-front-spec =
+    tie.close (tie.spec sub-copy part-copy-start part-copy-end copy-requires same-length returns)

@@ -1,0 +1,47 @@
+-- `headunit::said` meets its contract.
+-- Assumes nothing.
+use borrow.Author.Tests.{eq-eqb, ne-eqb}
+use Rattle.link.specs.Call.{saidOf}
+use borrow.Author.Needs.{needs}
+use Rattle.headunit.proofs.said.Statement.{statement}
+use Rattle.headunit.proofs.said.Tie as tie
+use Rattle.headunit.proofs.said.Reads as reads
+use Rattle.headunit.proofs.said.Lts as lts
+use Rattle.numbers.proofs.be4.Reads as be4-reads
+use Rattle.payload.proofs.read.Reads as read-reads
+
+-- src/lib.rt:93:22
+read-requires : tie.Need-read-requires
+read-requires c κs = search needs
+
+-- src/lib.rt:94:40
+enum-known-tags : tie.Need-enum-known-tags
+enum-known-tags c = search needs
+
+-- src/lib.rt:99:45
+enum-told : tie.Need-enum-told
+enum-told c = search needs
+
+-- src/lib.rt:93:9
+returns : tie.Need-returns
+unfolding saidOf
+returns c = rw (eq-eqb _ _ (c .before .before .before .before .if1 .taken), ← (c .before .before .before .read .ensures), (c .before .tags .given .1))
+
+-- src/lib.rt:93:9
+returns-2 : tie.Need-returns-2
+unfolding saidOf
+returns-2 c = rw (eq-eqb _ _ (c .before .before .before .if1 .taken), ← (c .before .before .read .ensures), (c .enum-told .given .1))
+
+-- src/lib.rt:102:61
+be4-requires : tie.Need-be4-requires
+be4-requires c κs = search needs
+
+-- src/lib.rt:89:1
+returns-3 : tie.Need-returns-3
+unfolding saidOf
+returns-3 c = rw (ne-eqb _ _ (c .before .if1 .left), ← (c .be4 .ensures))
+
+pub said-spec : {M : Type 1} → statement M
+said-spec =
+    tie.close
+    (tie.spec read-requires enum-known-tags enum-told returns returns-2 be4-requires returns-3)

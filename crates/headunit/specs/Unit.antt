@@ -1,0 +1,99 @@
+-- What creation and a call leave, as the code answers it, and the small definitions of its inner functions. The call itself is `callOf`
+-- (link/specs/Call), creation `createdLink` (link/specs/State).
+-- Assumes nothing.
+use Prim.Native.Nat.{ℕ, _≤_, _<_}
+use mathlib.Core.Path.{_≡_}
+use mathlib.Core.Bool.{true}
+use mathlib.Core.List.{List}
+use lib.ListN.{length, getD}
+use Rattle.numbers.specs.Bytes.{unless, laid}
+use Rattle.frame.specs.declared.Header.{Header}
+use Rattle.frame.specs.Rules.{listedService}
+use Rattle.frame.specs.declared.Written.{Written}
+use Rattle.frame.specs.declared.Written.the-variants as written
+use Rattle.payload.specs.declared.append.Written as Payload
+use Rattle.payload.specs.declared.append.Written.the-variants as payload
+use Rattle.payload.specs.declared.version.Version.{Version}
+use Rattle.session.specs.declared.Act.{Act}
+use Rattle.session.specs.declared.Act.the-variants.{Refuse, Drop, Accept, Beat, Start, NoStart, Stop, Close, NoEnd, Claim, Append, Deliver, Single}
+use Rattle.session.specs.Rows.{noRow}
+use Rattle.session.specs.Rules.{replyVersion}
+use Rattle.link.specs.declared.Link.{Link}
+use Rattle.link.specs.declared.Answer.{Answer}
+use Rattle.link.specs.State.{settingsFit, createdLink}
+use Rattle.link.specs.Call.{After, Wish, old, new, bad}
+use Rattle.headunit.specs.declared.Called.{Called}
+use Rattle.headunit.specs.declared.replies.From.{From}
+use Rattle.headunit.specs.declared.Created.{Created}
+use Rattle.headunit.specs.declared.Wished.{Wished}
+use Rattle.headunit.specs.declared.Wished.the-variants as wished
+
+-- creation: 10 for settings out of range
+unfoldable pub creationOf : Version → ℕ → Created
+creationOf v mtu = record { refused = unless (settingsFit v mtu) 10 0; link = createdLink v mtu }
+
+-- all that a call leaves: what it gives back, and the lent buffers
+abbrev pub leaves : Called → List ℕ → List ℕ → After
+leaves c pool out = record { answer = c .answer; link = c .link; pool = pool; out = out }
+
+-- bytes written to the front of a buffer, and how many
+pub record Sent : Type 0 where
+  pub count : ℕ
+  pub out : List ℕ
+
+abbrev pub sent : ℕ → List ℕ → Sent
+sent n o = record { count = n; out = o }
+
+abbrev pub sentOf : List ℕ → List ℕ → Sent
+sentOf bytes o = sent (length bytes) (laid bytes o)
+
+-- the bytes that a writer wrote
+abbrev pub countOf : Written → ℕ
+countOf (written.Bytes n) = n
+countOf (written.Refused n) = 0
+
+-- the same of a payload's writer
+abbrev pub payloadCountOf : Payload.Written → ℕ
+payloadCountOf (payload.Bytes n) = n
+payloadCountOf (payload.Refused n) = 0
+
+-- the code's word for what an opening wishes
+abbrev pub wishFrom : Wished → Wish
+wishFrom wished.Old = old
+wishFrom (wished.New v) = new v
+wishFrom wished.Bad = bad
+
+-- out has room for what a decision delivers: `payload` bytes of a Single Frame, `total` bytes of a message
+abbrev pub Roomy : ℕ → ℕ → ℕ → Act → Type 0
+Roomy room payload total (Refuse n) = Unit {0}
+Roomy room payload total (Drop n) = Unit {0}
+Roomy room payload total Accept = Unit {0}
+Roomy room payload total Beat = Unit {0}
+Roomy room payload total Start = Unit {0}
+Roomy room payload total NoStart = Unit {0}
+Roomy room payload total Stop = Unit {0}
+Roomy room payload total Close = Unit {0}
+Roomy room payload total (NoEnd named) = Unit {0}
+Roomy room payload total (Claim bytes frames) = Unit {0}
+Roomy room payload total Append = Unit {0}
+Roomy room payload total Deliver = total ≤ room
+Roomy room payload total Single = payload ≤ room
+
+-- a reply as all that a call leaves
+abbrev pub repliedWith : (ℕ → ℕ → Answer) → ℕ → Link → List ℕ → Sent → After
+repliedWith kind consumed l pool w = record { answer = kind consumed (w .count); link = l; pool = pool; out = w .out }
+
+-- "Replies carry its id and version"
+abbrev pub fromOf : Link → ℕ → Header → From
+fromOf l i h =
+    let r = getD (l .rows) i noRow in
+    record { version = replyVersion (l .version .major) r; service = h .service; session = r .id }
+
+-- what a reply in row i needs: room, and a version and a service that a frame may have
+abbrev pub Serves : Link → ℕ → Header → List ℕ → Type 0
+Serves l i h out =
+    (i < 8)
+    × ((128 ≤ length out)
+    × ((1 ≤ replyVersion (l .version .major) (getD (l .rows) i noRow))
+    × ((replyVersion (l .version .major) (getD (l .rows) i noRow) ≤ 5)
+    × (listedService (h .service) ≡ true))))

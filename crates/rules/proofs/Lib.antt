@@ -1,0 +1,3 @@
+mod Folds
+mod Turns
+mod Counts

@@ -1,0 +1,25 @@
+-- `rules::is_running` meets its contract: each return by its tests.
+-- Assumes nothing.
+use borrow.Author.Tests.{eq-eqb, ne-eqb}
+use Rattle.session.specs.Rules.{isRunning}
+use Rattle.rules.proofs.is_running.Statement.{statement}
+use Rattle.rules.proofs.is_running.Tie as tie
+
+returns : tie.Need-returns
+unfolding isRunning
+returns c = rw (eq-eqb _ _ (c .if1 .taken))
+
+returns-2 : tie.Need-returns-2
+unfolding isRunning
+returns-2 c = rw (ne-eqb _ _ (c .before .if1 .left), eq-eqb _ _ (c .if2 .taken))
+
+returns-3 : tie.Need-returns-3
+unfolding isRunning
+returns-3 c = rw (ne-eqb _ _ (c .before .before .if1 .left), ne-eqb _ _ (c .before .if2 .left), eq-eqb _ _ (c .if3 .taken))
+
+returns-4 : tie.Need-returns-4
+unfolding isRunning
+returns-4 c = rw (ne-eqb _ _ (c .before .before .if1 .left), ne-eqb _ _ (c .before .if2 .left), ne-eqb _ _ (c .if3 .left))
+
+pub is-running-spec : {M : Type 1} → statement M
+is-running-spec = tie.close (tie.spec returns returns-2 returns-3 returns-4)

@@ -1,0 +1,16 @@
+-- `rules::version_allowed` meets its contract: the code's tests are the definition's.
+-- Assumes nothing.
+use Rattle.link.specs.State.{versionAllowed}
+use borrow.Author.Needs.{needs}
+use Rattle.rules.proofs.version_allowed.Statement.{statement}
+use Rattle.rules.proofs.version_allowed.Tie as tie
+
+least-requires : tie.Need-least-requires
+least-requires c κs = search needs
+
+returns : tie.Need-returns
+unfolding versionAllowed
+returns c = rw (c .least .ensures)
+
+pub version-allowed-spec : {M : Type 1} → statement M
+version-allowed-spec = tie.close (tie.spec least-requires returns)
