@@ -21,15 +21,15 @@ use payload::reply::Parameter;
 use payload::version::Version;
 
 // The infos of replies.
-pub const START_ACK: u8 = 2;
+pub(crate) const START_ACK: u8 = 2;
 
-pub const START_NAK: u8 = 3;
+pub(crate) const START_NAK: u8 = 3;
 
-pub const END_ACK: u8 = 5;
+pub(crate) const END_ACK: u8 = 5;
 
-pub const END_NAK: u8 = 6;
+pub(crate) const END_NAK: u8 = 6;
 
-pub const BEAT_ACK: u8 = 255;
+pub(crate) const BEAT_ACK: u8 = 255;
 
 fn count(written: Written) -> usize
     ensures { λ r. ⌜ r ≡ countOf written ⌝ }
@@ -51,14 +51,14 @@ fn payload_count(written: payload::append::Written) -> usize
 }
 
 // What the replies of one call share.
-pub struct From {
+pub(crate) struct From {
     pub version: u8,
     pub service: ServiceType,
     pub session: SessionId,
 }
 
 // A reply with this payload.
-pub fn put(from: From, info: u8, message: u32, payload: &[u8], out: &mut [u8]) -> usize
+pub(crate) fn put(from: From, info: u8, message: u32, payload: &[u8], out: &mut [u8]) -> usize
     requires { ⌜ (128 ≤ length (now out)) × ((1 ≤ from .version) × ((from .version ≤ 5) × ((listedService (from .service) ≡ true) × ((infoFits 0 info ≡ true) × (length (now payload) ≤ 116))))) ⌝ }
     ensures { λ r. ⌜ sent r (now (out .exit)) ≡ sentOf (replyBytes (from .version) (from .service) info (from .session .0) message (now (payload .entry))) (now (out .entry)) ⌝ }
 {
@@ -78,7 +78,7 @@ pub fn put(from: From, info: u8, message: u32, payload: &[u8], out: &mut [u8]) -
 }
 
 // A reply of data size 0.
-pub fn put_empty(from: From, info: u8, message: u32, out: &mut [u8]) -> usize
+pub(crate) fn put_empty(from: From, info: u8, message: u32, out: &mut [u8]) -> usize
     requires { ⌜ (128 ≤ length (now out)) × ((1 ≤ from .version) × ((from .version ≤ 5) × ((listedService (from .service) ≡ true) × (infoFits 0 info ≡ true)))) ⌝ }
     ensures { λ r. ⌜ sent r (now (out .exit)) ≡ sentOf (replyBytes (from .version) (from .service) info (from .session .0) message []) (now (out .entry)) ⌝ }
 {
@@ -87,7 +87,7 @@ pub fn put_empty(from: From, info: u8, message: u32, out: &mut [u8]) -> usize
 }
 
 // A Start's ACK below version 5: the raw hash.
-pub fn put_hash(from: From, message: u32, hash: u32, out: &mut [u8]) -> usize
+pub(crate) fn put_hash(from: From, message: u32, hash: u32, out: &mut [u8]) -> usize
     requires { ⌜ (128 ≤ length (now out)) × ((1 ≤ from .version) × ((from .version ≤ 5) × (listedService (from .service) ≡ true))) ⌝ }
     ensures { λ r. ⌜ sent r (now (out .exit)) ≡ sentOf (replyBytes (from .version) (from .service) startAck (from .session .0) message (bytesBe 4 hash)) (now (out .entry)) ⌝ }
 {
@@ -97,7 +97,7 @@ pub fn put_hash(from: From, message: u32, hash: u32, out: &mut [u8]) -> usize
 }
 
 // A service's ACK in version 5: hashId and mtu.
-pub fn put_granted(from: From, message: u32, hash: u32, mtu: u32, out: &mut [u8]) -> usize
+pub(crate) fn put_granted(from: From, message: u32, hash: u32, mtu: u32, out: &mut [u8]) -> usize
     requires { ⌜ (128 ≤ length (now out)) × ((1 ≤ from .version) × ((from .version ≤ 5) × (listedService (from .service) ≡ true))) ⌝ }
     ensures { λ r. ⌜ sent r (now (out .exit)) ≡ sentOf (replyBytes (from .version) (from .service) startAck (from .session .0) message (serviceAckPayload hash mtu)) (now (out .entry)) ⌝ }
 {
@@ -107,7 +107,7 @@ pub fn put_granted(from: From, message: u32, hash: u32, mtu: u32, out: &mut [u8]
 }
 
 // The opening's ACK in version 5: hashId, mtu and protocolVersion. It is the session's first ACK.
-pub fn put_opened(
+pub(crate) fn put_opened(
     session: SessionId,
     hash: u32,
     mtu: u32,
@@ -128,7 +128,7 @@ pub fn put_opened(
 }
 
 // A NAK that names a parameter.
-pub fn put_nak(from: From, info: u8, parameter: Parameter, out: &mut [u8]) -> usize
+pub(crate) fn put_nak(from: From, info: u8, parameter: Parameter, out: &mut [u8]) -> usize
     requires { ⌜ (128 ≤ length (now out)) × ((1 ≤ from .version) × ((from .version ≤ 5) × ((listedService (from .service) ≡ true) × (infoFits 0 info ≡ true)))) ⌝ }
     ensures { λ r. ⌜ sent r (now (out .exit)) ≡ sentOf (replyBytes (from .version) (from .service) info (from .session .0) 0 (nakPayload (nameOf parameter))) (now (out .entry)) ⌝ }
 {
@@ -138,7 +138,7 @@ pub fn put_nak(from: From, info: u8, parameter: Parameter, out: &mut [u8]) -> us
 }
 
 // A service's ACK: hashId and mtu in version 5, below it the raw hash. `settled` is the session's version.
-pub fn put_started(
+pub(crate) fn put_started(
     from: From,
     settled: u8,
     message: u32,
@@ -156,7 +156,7 @@ pub fn put_started(
 }
 
 // An End's NAK; it may name the hash id.
-pub fn put_not_ended(from: From, named: bool, out: &mut [u8]) -> usize
+pub(crate) fn put_not_ended(from: From, named: bool, out: &mut [u8]) -> usize
     requires { ⌜ (128 ≤ length (now out)) × ((1 ≤ from .version) × ((from .version ≤ 5) × (listedService (from .service) ≡ true))) ⌝ }
     ensures { λ r. ⌜ sent r (now (out .exit)) ≡ sentOf (replyBytes (from .version) (from .service) endNak (from .session .0) 0 (pick named (nakPayload hashId) [])) (now (out .entry)) ⌝ }
 {
