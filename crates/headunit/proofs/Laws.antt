@@ -56,7 +56,8 @@ use Rattle.link.specs.declared.Answer.the-variants as answer
 use Rattle.link.specs.State.{indexOf, lowestFree, ownerOf, versionAllowed, rowFits, rulesHold, settingsFit, grantFits, guardOf, withRow, withOwners}
 use Rattle.link.specs.Call.{After, saidOf, decisionOf, applied}
 use Rattle.link.proofs.Shown.{and-both, rules-say}
-use Rattle.link.proofs.Holdings.{all-at, row-rules, index-id}
+use Rattle.link.proofs.Holdings.{row-fits-at, row-rules}
+use Rattle.link.proofs.Table.{index-row}
 use Rattle.link.specs.Reply.{replyHeader, replyBytes, grantedPayload}
 use Rattle.link.proofs.Replies.{reply-sound}
 use Rattle.headunit.specs.Unit.{Sent, sent, sentOf, countOf, payloadCountOf, Roomy, Serves}
@@ -223,8 +224,7 @@ guard-version l n g i e h z =
     let c = and-both (grantFits g) (rulesHold l) (b .1) in
     let r : Row = getD (l .rows) i noRow in
     let m = guard-major l n g e in
-    let y : 0 + i ≡ i = omega arith in
-    let t : rowFits (l .version .major) (l .owners) i r ≡ true = rw y at (all-at noRow (rowFits (l .version .major) (l .owners)) 0 (l .rows) i (rules-say l (c .1) .rows) h) in
+    let t : rowFits (l .version .major) (l .owners) i r ≡ true = row-fits-at (l .version .major) (l .owners) (l .rows) i (rules-say l (c .1) .rows) h in
     let allowed = row-rules (l .version .major) i (l .owners) r t z .version in
     let most : r .version ≤ 5 = or-most (leb (r .version) (min (l .version .major) 4)) (eqb (l .version .major) 5 && eqb (r .version) 5) allowed
     (λ s. omega (arith, leb-true (r .version) (min (l .version .major) 4) s)) (λ s. omega (arith, eqb-true (r .version) 5 (and-both (eqb (l .version .major) 5) (eqb (r .version) 5) s .1))) in
@@ -253,6 +253,6 @@ pub serves : (l : Link) (n : ℕ) (g : Grant) (i : ℕ) (s : List ℕ) (h : Head
     → i ≡ indexOf (h .session .0) (l .rows) → length (l .rows) ≡ 8 → i < 8 → (h .session .0 ≡ 0 → ⊥) → 128 ≤ length out → Serves l i h out
 serves l n g i s h e out guard read at eight below z room =
     let there : indexOf (h .session .0) (l .rows) < length (l .rows) = omega arith in
-    let id : getD (l .rows) i noRow .id .0 ≡ h .session .0 = ap (λ (x : ℕ). getD (l .rows) x noRow .id .0) at ∙ index-id (h .session .0) (l .rows) there in
+    let id : getD (l .rows) i noRow .id .0 ≡ h .session .0 = ap (λ (x : ℕ). getD (l .rows) x noRow .id .0) at ∙ index-row (h .session .0) (l .rows) there in
     let v = guard-version l n g i guard (omega arith) (λ x. z (sym id ∙ x)) in
     (below, (room, (v .0, (v .1, fault-none h (frame-sound s h e read) .service))))

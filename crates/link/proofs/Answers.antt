@@ -1,11 +1,11 @@
 -- A call that names a session is answered alike in states that agree on its row, its page and the settings, unless it asks to go above its
 -- guarantee: the decision knows one more number, the room of the others, and only the last room check reads it.
 -- Assumes nothing.
-use Prim.Native.Nat.{ℕ, suc, _+_, _-_, _≤_, _<_, max}
+use Prim.Native.Nat.{ℕ, _+_, _-_, _≤_, _<_, max}
 use mathlib.Core.Path.{_≡_, refl, ap, ap₂, _∙_, sym, subst}
 use mathlib.Core.Bool.{Bool, true, false, _&&_, not}
 use mathlib.Core.Option.{Option, none, some}
-use mathlib.Core.List.{List, [], _∷_}
+use mathlib.Core.List.{List, []}
 use native.Mathlib.Omega.{arith}
 use lib.Dec.{T, eqb, ltb, leb}
 use lib.ListN.{length, getD}
@@ -19,9 +19,8 @@ use Rattle.frame.specs.declared.Reading.{Reading}
 use Rattle.frame.specs.declared.Reading.the-variants as reading
 use Rattle.frame.specs.Read.{readOf}
 use Rattle.frame.specs.Message.{totalsFit}
-use Rattle.frame.proofs.Laws.{either, unless-elim}
+use Rattle.frame.proofs.Laws.{unless-elim}
 use Rattle.frame.proofs.Answers.{session-fourth}
-use Rattle.session.specs.declared.Reassembly.{Reassembly}
 use Rattle.session.specs.declared.Row.{Row}
 use Rattle.session.specs.declared.Act.{Act}
 use Rattle.session.specs.declared.Act.the-variants.{Refuse, Drop, Accept, Beat, Start, NoStart, Stop, Close, NoEnd, Claim, Append, Deliver, Single}
@@ -30,7 +29,7 @@ use Rattle.session.specs.Rules.{replyVersion, barredBy}
 use Rattle.payload.specs.declared.version.Version.{Version}
 use Rattle.payload.specs.Tags.{hashId}
 use Rattle.payload.specs.Reply.{nakPayload}
-use Rattle.session.specs.Decide.{placeOf, needOf, heldBy, heldIn, heldOf, shareOf, firstOf, nextOf, singleOf, controlOf, contentOf}
+use Rattle.session.specs.Decide.{placeOf, needOf, heldOf, shareOf, firstOf, nextOf, singleOf, controlOf, contentOf}
 use Rattle.link.specs.declared.Link.{Link}
 use Rattle.link.specs.declared.Grant.{Grant}
 use Rattle.link.specs.State.{indexOf, sharesIn, grantFits, guardOf}
@@ -38,13 +37,13 @@ use Rattle.link.specs.declared.Answer.{Answer}
 use Rattle.link.specs.declared.Answer.the-variants as answer
 use Rattle.link.specs.Reply.{replyBytes, startAck, startNak, endAck, endNak, beatAck, grantedPayload}
 use Rattle.link.specs.Call.{After, opens, saidOf, decisionOf, applied, frameOf, readingOf, callOf}
-use Rattle.link.specs.Book.{Request, Command, call, Ask, single, first, next, end, other, Seen, opening, within, askOf, seenIn, seenOf, dueOn, names, Note, noNote, Page, needsIn, reachesRoom, ModestOn, ModestIn}
+use Rattle.link.specs.Book.{Request, Command, call, Ask, single, first, next, end, other, Seen, opening, within, askOf, seenIn, seenOf, dueOn, names, Page, needsIn, reachesRoom, ModestOn, ModestIn}
 use Rattle.link.specs.Claim.{State, eventOf, isOpen, DeliversDue}
-use Rattle.link.specs.Pages.{rowOf, noteOf, notesFrom, pageOf, pages, Sane}
+use Rattle.link.specs.Pages.{rowOf, notesFrom, pageOf, pages, Sane}
 use Rattle.link.proofs.Shown.{and-both, rules-say}
 use Rattle.link.proofs.Table.{shares-modest}
 use Rattle.link.proofs.Deliveries.{Gives, row-gives, page-of}
-use Rattle.link.proofs.Holdings.{open-index}
+use Rattle.link.proofs.Holdings.{needs-held, open-index}
 use Rattle.link.proofs.Others.{row-open}
 use Rattle.link.proofs.Lists.{Alike}
 
@@ -56,12 +55,6 @@ row-is s i r e = byOpen (isOpen s i) e
     byOpen : (b : Bool) → pick b (some (getD (s .link .rows) (indexOf i (s .link .rows)) noRow)) none ≡ some r → getD (s .link .rows) (indexOf i (s .link .rows)) noRow ≡ r
     byOpen true f = cc
     byOpen false f = let z : _≡_ {A = ℕ} 0 1 = cc in absurd (omega arith)
-
--- "the needs of its session's messages in the book" are the blocks that they hold
-needs-held : (s : State) (n from : ℕ) (ms : List Reassembly) → needsIn (notesFrom s n from ms) ≡ heldIn ms
-unfolding notesFrom noteOf needsIn heldIn heldBy
-needs-held s n from [] = refl
-needs-held s n from (m ∷ ms) = ap₂ (λ (a b : ℕ). a + b) (either (λ (x : Note). x .need ≡ heldBy m) (m .live) _ noNote (λ e. rw e) (λ e. rw e)) (needs-held s n (suc from) ms)
 
 -- the decision, by what it knows of the link
 abbrev decide : ℕ → ℕ → Row → ℕ → Header → List ℕ → ℕ → Act

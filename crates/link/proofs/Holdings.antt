@@ -20,16 +20,12 @@ use Rattle.link.specs.Book.{Note, Page, needsIn, needsOf}
 use Rattle.link.specs.Claim.{State, isOpen, blocksOf}
 use Rattle.link.specs.Pages.{rowOf, noteOf, notesFrom, pageOf, pageIf, pages, FiveEach, Sane}
 use Rattle.link.proofs.Shown.{and-both, rules-say}
+use Rattle.link.proofs.Table.{index-row}
+use Rattle.link.proofs.RowRules.{from-at}
 
--- a test of all holds at each
-pub all-at : {A : Type 0} (d : A) (test : ℕ → A → Bool) (n : ℕ) (l : List A) (k : ℕ) → allFrom n test l ≡ true → k < length l → test (n + k) (getD l k d) ≡ true
-all-at d test n [] k e h = absurd (omega arith)
-all-at d test n (a ∷ l) zero e h =
-    let z : n + 0 ≡ n = omega arith in
-    rw z (and-both (test n a) (allFrom (suc n) test l) e .0)
-all-at d test n (a ∷ l) (suc k) e h =
-    let z : n + suc k ≡ suc n + k = omega arith in
-    rw z (all-at d test (suc n) l k (and-both (test n a) (allFrom (suc n) test l) e .1) (omega arith))
+-- the rules of the row at an index
+pub row-fits-at : (major : ℕ) (owners : List ℕ) (rs : List Row) (i : ℕ) → allFrom 0 (rowFits major owners) rs ≡ true → i < length rs → rowFits major owners i (getD rs i noRow) ≡ true
+row-fits-at major owners rs i e h = let z : 0 + i ≡ i = omega arith in rw z at (from-at 0 (rowFits major owners) rs i noRow e h)
 
 pub five-at : (rs : List Row) (k : ℕ) → FiveEach rs → k < length rs → length (getD rs k noRow .messages) ≡ 5
 five-at [] k f h = absurd (omega arith)
@@ -65,7 +61,7 @@ counted s i place (m ∷ ms) e =
     rw (here, rest)
 
 -- the needs in the book are what the row's messages hold
-needs-held : (s : State) (i place : ℕ) (ms : List Reassembly) → needsIn (notesFrom s i place ms) ≡ heldIn ms
+pub needs-held : (s : State) (i place : ℕ) (ms : List Reassembly) → needsIn (notesFrom s i place ms) ≡ heldIn ms
 unfolding needsIn notesFrom heldIn heldFor
 needs-held s i place [] = refl
 needs-held s i place (m ∷ ms) = rw (note-need s i place m, needs-held s i (suc place) ms)
@@ -108,16 +104,6 @@ row-rules major i owners r e n =
     let c = and-both (unsettledFits r) _ (b .1) in
     record { blocks = p .0; room = a .0; version = b .0; unsettled = c .0; messages = c .1 }
 
--- the row that an id leads to has it
-pub index-id : (i : ℕ) (rs : List Row) → indexOf i rs < length rs → getD rs (indexOf i rs) noRow .id .0 ≡ i
-unfolding indexOf
-index-id i [] h = absurd (omega arith)
-index-id i (r ∷ rs) h = byTest (λ g. index-id i rs g) (eqb (r .id .0) i) refl h
-  where
-    byTest : (indexOf i rs < length rs → getD rs (indexOf i rs) noRow .id .0 ≡ i) → (b : Bool) → eqb (r .id .0) i ≡ b → pick b 0 (suc (indexOf i rs)) < suc (length rs) → getD (r ∷ rs) (pick b 0 (suc (indexOf i rs))) noRow .id .0 ≡ i
-    byTest later true e g = eqb-true (r .id .0) i e
-    byTest later false e g = later (omega arith)
-
 -- "each holds exactly the blocks that its messages in the book need, counted in the block map, at most its cap"
 pub holds : (s : State) (i : ℕ) (p : Page) → Sane s → pages s i ≡ some p → (blocksOf s i ≡ needsOf p) × (needsOf p ≤ p .cap)
 unfolding blocksOf blocksFit roomFits
@@ -127,10 +113,8 @@ holds s i p k e =
     let r : Row = getD rs n noRow in
     let q = page-row s i p e in
     let o = open-index s i (q .0) in
-    let z : r .id .0 ≡ 0 → ⊥ = λ x. o .0 (sym (index-id i rs (o .1)) ∙ x) in
-    let y : 0 + n ≡ n = omega arith in
-    let t : rowFits (s .link .version .major) (s .link .owners) n r ≡ true
-    = rw y at (all-at noRow (rowFits (s .link .version .major) (s .link .owners)) 0 rs n (rules-say (s .link) (k .rules) .rows) (o .1)) in
+    let z : r .id .0 ≡ 0 → ⊥ = λ x. o .0 (sym (index-row i rs (o .1)) ∙ x) in
+    let t : rowFits (s .link .version .major) (s .link .owners) n r ≡ true = row-fits-at (s .link .version .major) (s .link .owners) rs n (rules-say (s .link) (k .rules) .rows) (o .1) in
     let f : OpenRow (s .link .version .major) n (s .link .owners) r = row-rules (s .link .version .major) n (s .link .owners) r t z in
     let five : length (r .messages) ≡ 5 = five-at rs n (k .five) (o .1) in
     let needs : needsOf p ≡ needsIn (notesFrom s n 0 (r .messages)) = ap (λ (x : Page). needsOf x) (q .1) in

@@ -1,6 +1,6 @@
 -- What the state rules say of an open session's row, in one record.
 -- Assumes nothing.
-use Prim.Native.Nat.{ℕ, _+_, _<_}
+use Prim.Native.Nat.{ℕ, _<_}
 use mathlib.Core.Path.{_≡_, _∙_, sym}
 use mathlib.Core.Bool.{Bool, true}
 use mathlib.Core.List.{List}
@@ -14,7 +14,8 @@ use Rattle.link.specs.State.{indexOf, ownerOf, rowFits}
 use Rattle.link.specs.Claim.{State, isOpen}
 use Rattle.link.specs.Pages.{Sane}
 use Rattle.link.proofs.Shown.{rules-say}
-use Rattle.link.proofs.Holdings.{all-at, five-at, open-index, index-id, OpenRow, row-rules}
+use Rattle.link.proofs.Holdings.{row-fits-at, five-at, open-index, OpenRow, row-rules}
+use Rattle.link.proofs.Table.{index-row}
 use Rattle.link.proofs.RowRules.{RowFacts, facts-of, Fits, runsAt, blocks-say}
 
 -- the session i in row n
@@ -33,11 +34,9 @@ open-facts s i k o =
     let n : ℕ = indexOf i rs in
     let r : Row = getD rs n noRow in
     let at = open-index s i o in
-    let mine : r .id .0 ≡ i = index-id i rs (at .1) in
+    let mine : r .id .0 ≡ i = index-row i rs (at .1) in
     let five : length (r .messages) ≡ 5 = five-at rs n (k .five) (at .1) in
-    let y : 0 + n ≡ n = omega arith in
-    let t : rowFits (s .link .version .major) (s .link .owners) n r ≡ true
-    = rw y at (all-at noRow (rowFits (s .link .version .major) (s .link .owners)) 0 rs n (rules-say (s .link) (k .rules) .rows) (at .1)) in
+    let t : rowFits (s .link .version .major) (s .link .owners) n r ≡ true = row-fits-at (s .link .version .major) (s .link .owners) rs n (rules-say (s .link) (k .rules) .rows) (at .1) in
     let g : OpenRow (s .link .version .major) n (s .link .owners) r = row-rules (s .link .version .major) n (s .link .owners) r t (λ x. at .0 (sym mine ∙ x)) in
     let facts : RowFacts (s .link .version .major) r
     = facts-of (s .link .version .major) r five (record { room = g .room; version = g .version; unsettled = g .unsettled; messages = g .messages }) in

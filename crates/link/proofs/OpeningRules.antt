@@ -20,9 +20,10 @@ use Rattle.link.specs.declared.Grant.{Grant}
 use Rattle.link.specs.State.{all, allFrom, indexOf, ownerOf, sharesIn, distinctIds, roomFits, versionAllowed, messageFits, unsettledFits, blocksFit, freeFits, rowFits, rulesHold, grantFits, withRow, lowestFree}
 use Rattle.link.specs.Call.{admits}
 use Rattle.link.specs.Pages.{FiveEach}
-use Rattle.link.proofs.RowRules.{both, and-yes, from-at, all-at, blocks-say, say-blocks, held-idle, held-none, rules-of, opened-facts, opened-held}
-use Rattle.link.proofs.Table.{index-row, distinct-set-new, lowest-of-eight, lowest-between}
-use Rattle.link.proofs.TableRules.{shares-set, rows-set, five-at}
+use Rattle.link.proofs.RowRules.{both, and-yes, all-at, blocks-say, say-blocks, held-idle, held-none, rules-of, opened-facts, opened-held}
+use Rattle.link.proofs.Table.{index-row, shares-set, distinct-set-new, lowest-of-eight, lowest-between}
+use Rattle.link.proofs.TableRules.{rows-set}
+use Rattle.link.proofs.Holdings.{five-at, row-fits-at}
 
 -- a free row has no blocks
 free-blocks : (major : ℕ) (owners : List ℕ) (k : ℕ) (r : Row) → r .id .0 ≡ 0 → rowFits major owners k r ≡ true → (q : ℕ) → q < length (r .messages) → blocksOf (ownerOf k q) owners ≡ 0
@@ -68,8 +69,7 @@ opened-rules l g v eight five e f w a =
     let u = both (ltb k (length rs)) (leb (sharesIn rs + g .guarantee) 256) w in
     let b : k < length rs = ltb-true k (length rs) (u .0) in
     let room : sharesIn rs + g .guarantee ≤ 256 = leb-true (sharesIn rs + g .guarantee) 256 (u .1) in
-    let z : 0 + k ≡ k = omega arith in
-    let old : rowFits major (l .owners) k (getD rs k noRow) ≡ true = rw z at (from-at 0 (rowFits major (l .owners)) rs k noRow (p₂ .0) b) in
+    let old : rowFits major (l .owners) k (getD rs k noRow) ≡ true = row-fits-at major (l .owners) rs k (p₂ .0) b in
     let l₅ : length (getD rs k noRow .messages) ≡ 5 = five-at rs k five b in
     let some : i .0 ≡ 0 → ⊥ = λ y. (let t = lowest-between rs eight in omega arith) in
     let new : rowFits major (l .owners) k r ≡ true =

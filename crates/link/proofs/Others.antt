@@ -38,8 +38,8 @@ use Rattle.link.specs.Book.{Request, Command, call, names}
 use Rattle.link.specs.Claim.{State, stateAfter, isOpen}
 use Rattle.link.specs.Pages.{rowOf, noteOf, notesFrom, pageIf, pages, Sane}
 use Rattle.link.proofs.Shown.{and-both}
-use Rattle.link.proofs.Holdings.{open-index, index-id, five-at}
-use Rattle.link.proofs.Table.{index-set-other, lowest-of-eight}
+use Rattle.link.proofs.Holdings.{open-index, five-at}
+use Rattle.link.proofs.Table.{index-set-other, lowest-of-eight, index-row}
 use Rattle.link.proofs.RowRules.{place-below}
 
 -- no method of a row but its closing changes its id
@@ -143,7 +143,7 @@ module _ (s : State) (i : ℕ) (k : Sane s) (opened : isOpen s i ≡ true) where
   other-index m a x y = index-set-other i (s .link .rows) m a x y
 
   apart : (m : ℕ) → (getD (s .link .rows) m noRow .id .0 ≡ i → ⊥) → indexOf i (s .link .rows) ≡ m → ⊥
-  apart m x e = x (ap (λ (j : ℕ). getD (s .link .rows) j noRow .id .0) (sym e) ∙ index-id i (s .link .rows) (open-index s i opened .1))
+  apart m x e = x (ap (λ (j : ℕ). getD (s .link .rows) j noRow .id .0) (sym e) ∙ index-row i (s .link .rows) (open-index s i opened .1))
 
   stored : (m : ℕ) (a : Row) (o p : List ℕ) → (getD (s .link .rows) m noRow .id .0 ≡ i → ⊥) → (a .id .0 ≡ i → ⊥)
       → ((q : ℕ) → q < 5 → blockBytes (ownerOf (indexOf i (s .link .rows)) q) o p ≡ blockBytes (ownerOf (indexOf i (s .link .rows)) q) (s .link .owners) (s .pool))
@@ -212,7 +212,7 @@ module _ (s : State) (i : ℕ) (k : Sane s) (opened : isOpen s i ≡ true) where
         let o = open-index s i opened in
         let low = lowest-of-eight (s .link .rows) (k .rows) in
         stored (indexOf 0 (s .link .rows)) _ (s .link .owners) (s .pool)
-        (λ z. o .0 (sym z ∙ index-id 0 (s .link .rows) (taken-index e)))
+        (λ z. o .0 (sym z ∙ index-row 0 (s .link .rows) (taken-index e)))
         (λ z. let u : indexOf i (s .link .rows) ≡ length (s .link .rows) = ap (λ (j : ℕ). indexOf j (s .link .rows)) (sym z) ∙ low .unused in omega (arith, o .1))
         (λ a b. refl)
 
@@ -230,7 +230,7 @@ module _ (s : State) (i : ℕ) (k : Sane s) (opened : isOpen s i ≡ true) where
         either (Leaves s i) (opens h) _ _ (λ u. opening-leaves (e .consumed) (wishOf (s .link .version .major) payload)) λ u.
         unless-elim (Leaves s i) (not (eqb (h .session .0) 0) && ltb m (length (s .link .rows))) _ _ (λ v. (refl, refl)) λ v.
         let below : m < length (s .link .rows) = ltb-true m (length (s .link .rows)) (and-both (not (eqb (h .session .0) 0)) (ltb m (length (s .link .rows))) v .1) in
-        applied-leaves m h (e .consumed) payload (q .grant) (q .out) (λ z. d (sym (index-id (h .session .0) (s .link .rows) below) ∙ z)) (decisionOf (s .link) m h payload (length (q .out)))
+        applied-leaves m h (e .consumed) payload (q .grant) (q .out) (λ z. d (sym (index-row (h .session .0) (s .link .rows) below) ∙ z)) (decisionOf (s .link) m h payload (length (q .out)))
 
     -- the fourth byte is the session id
     other-session : (h : Header) (e : Extent) → readOf (q .input) ≡ reading.Frame h e → T (not (names i (call q))) → h .session .0 ≡ i → ⊥

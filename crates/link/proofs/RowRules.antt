@@ -116,10 +116,6 @@ pub held-none : heldBy noReassembly ≡ 0
 unfolding heldBy
 held-none = refl
 
-pub held-live : (m : Reassembly) → m .live ≡ true → heldBy m ≡ needOf (m .total)
-unfolding heldBy
-held-live m e = rw e
-
 pub held-idle : (m : Reassembly) → m .live ≡ false → heldBy m ≡ 0
 unfolding heldBy
 held-idle m e = rw e

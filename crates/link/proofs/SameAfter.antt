@@ -30,8 +30,8 @@ use Rattle.link.specs.Book.{Request, Command, call, Event, Ask, single, 
 use Rattle.link.specs.Claim.{State, stateAfter, eventOf, isOpen}
 use Rattle.link.specs.Pages.{rowOf, pages, Sane}
 use Rattle.link.proofs.Shown.{shown}
-use Rattle.link.proofs.Table.{onTest}
-use Rattle.link.proofs.Holdings.{open-index, index-id}
+use Rattle.link.proofs.Table.{onTest, index-row}
+use Rattle.link.proofs.Holdings.{open-index}
 use Rattle.link.proofs.Others.{row-open, with-id, settled-id, service-id}
 use Rattle.link.proofs.PageAfter.{never, stored-row, gone-page}
 use Rattle.link.proofs.BookAfter.{told}
@@ -136,9 +136,9 @@ module _ (s₁ s₂ : State) (q : Request) (k₁ : Sane s₁) (k₂ : Sane s₂)
       let after : Row → Act → Option Row = λ x d. some (rowAfter x h (q .grant .hash) d) in (
         rowAfter r h (q .grant .hash) d₂,
         (
-          row-after s₁ i n₁ k₁ refl (at₁ .1) (at₁ .0) (index-id i (s₁ .link .rows) (at₁ .1)) (a .row₁ ∙ ap some (sym e₁)) q h (e .consumed) payload d₁ t₁
+          row-after s₁ i n₁ k₁ refl (at₁ .1) (at₁ .0) (index-row i (s₁ .link .rows) (at₁ .1)) (a .row₁ ∙ ap some (sym e₁)) q h (e .consumed) payload d₁ t₁
               ∙ ap (λ (x : Row). after x d₁) e₁ ∙ ap (after r) same,
-          row-after s₂ i n₂ k₂ refl (at₂ .1) (at₂ .0) (index-id i (s₂ .link .rows) (at₂ .1)) (a .row₂ ∙ ap some (sym e₂)) q h (e .consumed) payload d₂ t₂
+          row-after s₂ i n₂ k₂ refl (at₂ .1) (at₂ .0) (index-row i (s₂ .link .rows) (at₂ .1)) (a .row₂ ∙ ap some (sym e₂)) q h (e .consumed) payload d₂ t₂
               ∙ ap (λ (x : Row). after x d₂) e₂,
         ),
       )

@@ -7,15 +7,14 @@ use mathlib.Core.Bool.{Bool, true, false, _&&_, _||_}
 use mathlib.Core.List.{List, [], _∷_}
 use native.Mathlib.Omega.{arith}
 use lib.Dec.{eqb, ltb}
-use lib.ListN.{length, getD, set, length-set}
-use lib.Seq.{getD-set-same, getD-set-other}
+use lib.ListN.{length, getD, set}
 use borrow.Author.Tests.{eqb-true, eqb-false, eq-eqb, ne-eqb, lt-ltb, le-ltb}
 use Rattle.numbers.specs.Bytes.{pick}
 use Rattle.session.specs.declared.Row.{Row}
 use Rattle.frame.specs.declared.SessionId.{SessionId}
 use Rattle.session.specs.Rows.{noRow, freeRow, openedRow}
 use Rattle.session.specs.Decide.{heldBy, heldIn, heldOf, shareOf}
-use Rattle.link.specs.State.{indexOf, all, allFrom, sharesIn, distinctIds, lowestFree}
+use Rattle.link.specs.State.{indexOf, sharesIn, distinctIds, lowestFree}
 use Rattle.link.specs.Book.{Book, there, lowestIn}
 use Rattle.link.specs.Pages.{FiveEach}
 
@@ -94,13 +93,6 @@ index-first i (r ∷ rs) (suc j) h e =
 -- an index past the last: no row has the id
 pub index-missing : (i : ℕ) (rs : List Row) → indexOf i rs ≡ length rs → (j : ℕ) → j < length rs → idAt rs j ≢ i
 index-missing i rs e j h q = omega (arith, index-first i rs j h q)
-
--- and back
-pub missing-index : (i : ℕ) (rs : List Row) → ((j : ℕ) → j < length rs → idAt rs j ≢ i) → indexOf i rs ≡ length rs
-missing-index i rs f =
-    either (indexOf i rs) (length rs)
-    (λ e. e)
-    (λ n. let h : indexOf i rs < length rs = omega (arith, index-below i rs) in absurd (f (indexOf i rs) h (index-row i rs h)))
 
 -- nor has the first
 pub missing-head : (i : ℕ) (r : Row) (rs : List Row) → indexOf i (r ∷ rs) ≡ length (r ∷ rs) → r .id .0 ≢ i
@@ -198,25 +190,6 @@ index-set-gone i (q ∷ rs) (suc k) r g h e z n =
 
 -- ---- 3. distinct ids after storing
 
--- a row that keeps the id
-pub distinct-set-same : (rs : List Row) (k : ℕ) (r : Row) → r .id .0 ≡ idAt rs k → distinctIds rs ≡ true → distinctIds (set rs k r) ≡ true
-distinct-set-same [] k r e g = g
-distinct-set-same (q ∷ rs) zero r e g =
-    distinct-cons r rs (λ n. subst (λ (x : ℕ). indexOf x rs ≡ length rs) (sym e) (distinct-head q rs g (λ w. n (e ∙ w)))) (distinct-tail q rs g)
-distinct-set-same (q ∷ rs) (suc k) r e g =
-    distinct-cons q (set rs k r)
-    (λ n. index-set-same (q .id .0) rs k r e ∙ distinct-head q rs g n ∙ sym (length-set rs k r))
-    (distinct-set-same rs k r e (distinct-tail q rs g))
-
--- a free row: closing
-pub distinct-set-free : (rs : List Row) (k : ℕ) (r : Row) → r .id .0 ≡ 0 → distinctIds rs ≡ true → distinctIds (set rs k r) ≡ true
-distinct-set-free [] k r e g = g
-distinct-set-free (q ∷ rs) zero r e g = distinct-cons r rs (λ n. absurd (n e)) (distinct-tail q rs g)
-distinct-set-free (q ∷ rs) (suc k) r e g =
-    distinct-cons q (set rs k r)
-    (λ n. missing-set (q .id .0) rs k r (distinct-head q rs g n) (λ w. n (sym w ∙ e)))
-    (distinct-set-free rs k r e (distinct-tail q rs g))
-
 -- a row with an id that no row has: opening
 pub distinct-set-new : (rs : List Row) (k : ℕ) (r : Row) → indexOf (r .id .0) rs ≡ length rs → distinctIds rs ≡ true → distinctIds (set rs k r) ≡ true
 distinct-set-new [] k r m g = g
@@ -246,90 +219,12 @@ share-below (q ∷ rs) (suc k) h = omega (arith, share-below rs k (omega arith))
 pub shares-after : (rs : List Row) (k : ℕ) (r : Row) → k < length rs → sharesIn (set rs k r) ≡ (sharesIn rs - shareOf (getD rs k noRow)) + shareOf r
 shares-after rs k r h = omega (arith, shares-set rs k r h, share-below rs k h)
 
--- no larger share, no larger sum
-pub shares-less : (rs : List Row) (k : ℕ) (r : Row) → k < length rs → shareOf r ≤ shareOf (getD rs k noRow) → sharesIn (set rs k r) ≤ sharesIn rs
-shares-less rs k r h p = omega (arith, shares-set rs k r h)
-
--- the same share, the same sum
-pub shares-same : (rs : List Row) (k : ℕ) (r : Row) → k < length rs → shareOf r ≡ shareOf (getD rs k noRow) → sharesIn (set rs k r) ≡ sharesIn rs
-shares-same rs k r h p = omega (arith, shares-set rs k r h)
-
--- no more than the sum before and the new share
-pub shares-open : (rs : List Row) (k : ℕ) (r : Row) → k < length rs → sharesIn (set rs k r) ≤ sharesIn rs + shareOf r
-shares-open rs k r h = omega (arith, shares-set rs k r h)
-
--- the others' shares and the new one within a bound
-pub shares-room : (rs : List Row) (k : ℕ) (r : Row) (most : ℕ) → k < length rs → (sharesIn rs - shareOf (getD rs k noRow)) + shareOf r ≤ most → sharesIn (set rs k r) ≤ most
-shares-room rs k r most h p = omega (arith, shares-after rs k r h)
-
--- the room check that a First Frame passed: the new row holds so much, under the old guarantee
-pub shares-claim : (rs : List Row) (k : ℕ) (r : Row) (held most : ℕ) → k < length rs → heldOf r ≡ held → r .guarantee ≡ getD rs k noRow .guarantee
-    → (sharesIn rs - shareOf (getD rs k noRow)) + max held (getD rs k noRow .guarantee) ≤ most → sharesIn (set rs k r) ≤ most
-shares-claim rs k r held most h e g p = omega (arith, shares-after rs k r h)
-
 -- within its guarantee a row finds room, whatever the others hold
 pub shares-modest : (rs : List Row) (k held most : ℕ) → k < length rs → sharesIn rs ≤ most → held ≤ getD rs k noRow .guarantee
     → (sharesIn rs - shareOf (getD rs k noRow)) + max held (getD rs k noRow .guarantee) ≤ most
 shares-modest rs k held most h s p = omega (arith, share-below rs k h)
 
--- ---- 5. tests of all rows
-
-module _ {A : Type 0} where
-  -- a test of all, at one place
-  pub all-at : (d : A) (n : ℕ) (test : ℕ → A → Bool) (l : List A) (k : ℕ) → allFrom n test l ≡ true → k < length l → test (n + k) (getD l k d) ≡ true
-  all-at d n test [] k e h = absurd (omega arith)
-  all-at d n test (a ∷ l) zero e h =
-      let z : n ≡ n + 0 = omega arith in
-      subst (λ (m : ℕ). test m a ≡ true) z (and-left (test n a) (allFrom (suc n) test l) e)
-  all-at d n test (a ∷ l) (suc k) e h =
-      let z : suc n + k ≡ n + suc k = omega arith in
-      subst (λ (m : ℕ). test m (getD l k d) ≡ true) z (all-at d (suc n) test l k (and-right (test n a) (allFrom (suc n) test l) e) (omega arith))
-
-  -- and back, from every place
-  pub all-made : (d : A) (n : ℕ) (test : ℕ → A → Bool) (l : List A) → ((k : ℕ) → k < length l → test (n + k) (getD l k d) ≡ true) → allFrom n test l ≡ true
-  all-made d n test [] f = refl
-  all-made d n test (a ∷ l) f =
-      let z : n + 0 ≡ n = omega arith in
-      and-both (test n a) (allFrom (suc n) test l)
-      (subst (λ (m : ℕ). test m a ≡ true) z (f 0 (omega arith)))
-      (all-made d (suc n) test l (λ k h. let w : n + suc k ≡ suc n + k = omega arith in subst (λ (m : ℕ). test m (getD l k d) ≡ true) w (f (suc k) (omega arith))))
-
-  -- after storing: the new one by itself, each other from the old test
-  pub all-set : (d : A) (n : ℕ) (test after : ℕ → A → Bool) (l : List A) (k : ℕ) (a : A) → allFrom n test l ≡ true
-      → ((j : ℕ) → j < length l → j ≢ k → test (n + j) (getD l j d) ≡ true → after (n + j) (getD l j d) ≡ true)
-      → after (n + k) a ≡ true → allFrom n after (set l k a) ≡ true
-  all-set d n test after l k a e f q =
-      all-made d n after (set l k a) (λ j h.
-      let s : j < length l = subst (λ (m : ℕ). j < m) (length-set l k a) h in
-      either j k
-      (λ w. subst (λ (m : ℕ). after (n + m) (getD (set l k a) m d) ≡ true) (sym w)
-      (ap (λ (x : A). after (n + k) x) (getD-set-same l k a d (subst (λ (m : ℕ). m < length l) w s)) ∙ q))
-      (λ w. ap (λ (x : A). after (n + j) x) (getD-set-other l k j a d w) ∙ f j s w (all-at d n test l j e s)))
-
-  -- a test without places, of one
-  pub each-at : (d : A) (test : A → Bool) (l : List A) (k : ℕ) → all test l ≡ true → k < length l → test (getD l k d) ≡ true
-  each-at d test [] k e h = absurd (omega arith)
-  each-at d test (a ∷ l) zero e h = and-left (test a) (all test l) e
-  each-at d test (a ∷ l) (suc k) e h = each-at d test l k (and-right (test a) (all test l) e) (omega arith)
-
-  -- and back, from every one
-  pub each-made : (d : A) (test : A → Bool) (l : List A) → ((k : ℕ) → k < length l → test (getD l k d) ≡ true) → all test l ≡ true
-  each-made d test [] f = refl
-  each-made d test (a ∷ l) f = and-both (test a) (all test l) (f 0 (omega arith)) (each-made d test l (λ k h. f (suc k) (omega arith)))
-
-  -- after storing, likewise
-  pub each-set : (d : A) (test after : A → Bool) (l : List A) (k : ℕ) (a : A) → all test l ≡ true
-      → ((j : ℕ) → j < length l → j ≢ k → test (getD l j d) ≡ true → after (getD l j d) ≡ true)
-      → after a ≡ true → all after (set l k a) ≡ true
-  each-set d test after l k a e f q =
-      each-made d after (set l k a) (λ j h.
-      let s : j < length l = subst (λ (m : ℕ). j < m) (length-set l k a) h in
-      either j k
-      (λ w. subst (λ (m : ℕ). after (getD (set l k a) m d) ≡ true) (sym w)
-      (ap after (getD-set-same l k a d (subst (λ (m : ℕ). m < length l) w s)) ∙ q))
-      (λ w. ap after (getD-set-other l k j a d w) ∙ f j s w (each-at d test l j e s)))
-
--- ---- 6. the lowest free id
+-- ---- 5. the lowest free id
 
 -- the first one tried is free
 pub lowest-here : (n k : ℕ) (rs : List Row) → indexOf k rs ≡ length rs → lowestFree (suc n) k rs ≡ k
@@ -453,13 +348,7 @@ lowest-book b rs f (suc n) k h =
     (λ d. ap (λ (t : Bool). pick t (lowestIn b n (suc k)) k) (f k h ∙ lt-ltb (indexOf k rs) (length rs) (omega (arith, index-below k rs)))
     ∙ lowest-book b rs f n (suc k) (omega arith) ∙ sym (lowest-later n k rs d))
 
--- ---- 7. five places, and the rows that are made
-
--- five places in each row
-pub five-at : (rs : List Row) (k : ℕ) → FiveEach rs → k < length rs → length (getD rs k noRow .messages) ≡ 5
-five-at [] k f h = absurd (omega arith)
-five-at (r ∷ rs) zero f h = f .0
-five-at (r ∷ rs) (suc k) f h = five-at rs k (f .1) (omega arith)
+-- ---- 6. five places, and the rows that are made
 
 -- and so after storing a row of five
 pub five-set : (rs : List Row) (k : ℕ) (r : Row) → FiveEach rs → length (r .messages) ≡ 5 → FiveEach (set rs k r)
@@ -472,23 +361,7 @@ pub free-held : heldOf freeRow ≡ 0
 unfolding heldIn heldBy
 free-held = refl
 
--- its share is 0
-pub free-share : shareOf freeRow ≡ 0
-free-share = omega (arith, free-held)
-
--- it has five places
-pub free-five : length (freeRow .messages) ≡ 5
-free-five = refl
-
 -- a new row holds nothing
 pub opened-held : (i : SessionId) (g c v h : ℕ) → heldOf (openedRow i g c v h) ≡ 0
 unfolding heldIn heldBy
 opened-held i g c v h = refl
-
--- its share is its guarantee
-pub opened-share : (i : SessionId) (g c v h : ℕ) → shareOf (openedRow i g c v h) ≡ g
-opened-share i g c v h = omega (arith, opened-held i g c v h)
-
--- it has five places
-pub opened-five : (i : SessionId) (g c v h : ℕ) → length (openedRow i g c v h .messages) ≡ 5
-opened-five i g c v h = refl

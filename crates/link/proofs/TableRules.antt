@@ -25,14 +25,9 @@ use Rattle.link.specs.declared.Grant.{Grant}
 use Rattle.link.specs.Call.{After, applied, decisionOf}
 use Rattle.frame.proofs.Laws.{Sound}
 use Rattle.link.specs.Pages.{FiveEach, Sane}
-use Rattle.link.proofs.RowRules.{RowFacts, facts-of, decision-kept, place-below, both, and-yes, from-at, from-make, set-each, RowKept, Outcome, after-shares, after-five, after-id, after-row-fits, blocks-say, say-blocks, blocks-kept, blocks-same, free-held, held-none}
-
--- the sum of shares
-pub shares-set : (rs : List Row) (i : ℕ) (r : Row) → i < length rs → sharesIn (set rs i r) + shareOf (getD rs i noRow) ≡ sharesIn rs + shareOf r
-unfolding sharesIn
-shares-set [] i r h = absurd (omega arith)
-shares-set (a ∷ rs) zero r h = omega arith
-shares-set (a ∷ rs) (suc i) r h = omega (arith, shares-set rs i r (omega arith))
+use Rattle.link.proofs.Holdings.{five-at, row-fits-at}
+use Rattle.link.proofs.Table.{shares-set}
+use Rattle.link.proofs.RowRules.{RowFacts, facts-of, decision-kept, place-below, both, and-yes, from-make, set-each, RowKept, Outcome, after-shares, after-five, after-id, after-row-fits, blocks-say, say-blocks, blocks-kept, blocks-same, free-held, held-none}
 
 pub shares-most : (rs : List Row) (i : ℕ) → i < length rs → shareOf (getD rs i noRow) ≤ sharesIn rs
 unfolding sharesIn
@@ -118,7 +113,7 @@ rows-set major owners owners′ rs i a h q f e =
     from-make 0 (rowFits major owners′) (set rs i a) noRow (λ k j.
     let z : 0 + k ≡ k = omega arith in
     rw z (set-each (λ (k : ℕ) (r : Row). rowFits major owners′ k r ≡ true) rs i a noRow h q
-    (λ k j n. let y : 0 + k ≡ k = omega arith in f k j n (rw y at (from-at 0 (rowFits major owners) rs k noRow e j))) k (omega arith)))
+    (λ k j n. f k j n (row-fits-at major owners rs k e j)) k (omega arith)))
 
 -- ---- the blocks of all rows
 
@@ -332,11 +327,6 @@ row-elsewhere major owners owners′ k r five f e =
     let p = both (blocksFit owners k r) _ e in
     and-yes (blocksFit owners′ k r) _ (say-blocks owners′ k r (λ q h. f q (omega arith) ∙ blocks-say owners k r (p .0) q h)) (p .1)
 
-pub five-at : (rs : List Row) (k : ℕ) → FiveEach rs → k < length rs → length (getD rs k noRow .messages) ≡ 5
-five-at [] k f h = absurd (omega arith)
-five-at (r ∷ rs) zero f h = f .0
-five-at (r ∷ rs) (suc k) f h = five-at rs k (f .1) (omega arith)
-
 -- the state rules hold after a decision on an open row, if the map moved as the row did
 pub rules-after : (l : Link) (i : ℕ) (h : Header) (hash : ℕ) (act : Act) (owners′ : List ℕ) → length (l .rows) ≡ 8 → FiveEach (l .rows) → i < length (l .rows)
     → (getD (l .rows) i noRow .id .0 ≡ 0 → ⊥) → rulesHold l ≡ true
@@ -390,8 +380,7 @@ module _ (l : Link) (i : ℕ) (p out : List ℕ) (h : Header) (consumed : ℕ) (
   row-rule =
       let p₁ = both (distinctIds (l .rows)) _ e in
       let p₂ = both (allFrom 0 (rowFits (l .version .major) (l .owners)) (l .rows)) _ (p₁ .1) in
-      let z : 0 + i ≡ i = omega arith in
-      rw z at (from-at 0 (rowFits (l .version .major) (l .owners)) (l .rows) i noRow (p₂ .0) b)
+      row-fits-at (l .version .major) (l .owners) (l .rows) i (p₂ .0) b
 
   row-blocks : blocksFit (l .owners) i (getD (l .rows) i noRow) ≡ true
   unfolding rowFits

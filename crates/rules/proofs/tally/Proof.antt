@@ -1,7 +1,7 @@
 -- `rules::tally` meets its contract: counts that are the whole map are all counts there are.
 -- Assumes nothing.
-use mathlib.Core.Path.{sym, _∙_}
 use Rattle.rules.proofs.Counts.{counts-exact}
+use native.Mathlib.Omega.{arith}
 use borrow.Author.Needs.{needs}
 use Rattle.rules.proofs.tally.Statement.{statement}
 use Rattle.rules.proofs.tally.Tie as tie
@@ -13,7 +13,7 @@ total-requires : tie.Need-total-requires
 total-requires c κs = search needs
 
 returns : tie.Need-returns
-returns c = counts-exact (c .before .before .before .before .args .map .now) (c .before .before .count-open .result) (c .before .total .ensures .1) (c .before .before .count-open .ensures) (sym (c .before .total .ensures .0) ∙ (c .if1 .taken))
+returns c = counts-exact (c .before .before .before .before .args .map .now) (c .before .before .count-open .result) (c .before .total .ensures .1) (c .before .before .count-open .ensures) (omega (arith, c .before .total .ensures .0, c .if1 .taken))
 
 count-all-requires : tie.Need-count-all-requires
 count-all-requires c κs = search needs
