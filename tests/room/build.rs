@@ -1,5 +1,5 @@
 //! Links the archive. Cargo does not look at archives that flags name, and
-//! would go on testing the one it linked first; here it learns of a new one.
+//! would go on with the one it linked first; here it learns of a new one.
 
 use std::env;
 

@@ -1,6 +1,9 @@
 //! The block room's functions, called through the C archive, on the same data in the same run: claims and counts against
 //! plain Rust loops, appends and delivery against memcpy. Figures are ratios; a time alone says little on a shared machine.
 
+// The comparison's own bindings; not all of them are measured.
+#[allow(dead_code)]
+#[path = "../../../tests/room/src/proved.rs"]
 mod proved;
 
 use std::hint::black_box;
