@@ -33,6 +33,7 @@ use Rattle.link.specs.declared.Answer.{Answer}
 use Rattle.link.specs.declared.Answer.the-variants as answer
 use Rattle.link.specs.State.{indexOf, ownerOf, sharesIn, guardOf, withRow, withOwners}
 use Rattle.link.specs.Call.{After, Wish, old, new, bad, wishOf, opens, admits, openingBy, saidOf, decisionOf, applied, frameOf, readingOf, callOf}
+use Rattle.link.specs.Refusal.{KeepsOn, RefusalKeeps}
 use Rattle.link.proofs.RowRules.{barred-most}
 
 -- a decision drops a message by 24 and 25, and by no other refusal
@@ -105,34 +106,9 @@ decision-drops l i h payload room =
     either DropNumber (eqb (h .kind) 0) _ _ (λ u. control-drops r h (saidOf r payload))
     (λ u. content-drops r (sharesIn (l .rows) - shareOf r) room h (valueBe (part payload 0 4)) (valueBe (part payload 4 4)))
 
--- what a refusal, or Short, leaves: link, pool and out as they were; 24 and 25 drop the one message that their frame names
 module _ (l : Link) (p s o : List ℕ) where
-  abbrev pub Unchanged : After → Type 0
-  Unchanged w = (w .link ≡ l) × (w .pool ≡ p) × (w .out ≡ o)
-
-  -- the link without the open message of row i at a place
-  abbrev pub without : ℕ → ℕ → Link
-  without i place = withOwners (withRow l i (droppedRow (getD (l .rows) i noRow) place)) (released (ownerOf i place) (ownerOf i place) (l .owners))
-
-  pub record DropsNamed (w : After) : Type 0 where
-    pub header : Header
-    pub extent : Extent
-    pub read : readOf s ≡ reading.Frame header extent
-    pub link : w .link ≡ without (indexOf (header .session .0) (l .rows)) (placeOf (header .service .0))
-    pub pool : w .pool ≡ p
-    pub out : w .out ≡ o
-
-  abbrev pub KeepsOn : After → Answer → Type 0
-  KeepsOn w (answer.Short n) = Unchanged w
-  KeepsOn w (answer.Refused n) = ((n ≡ 24 → ⊥) × (n ≡ 25 → ⊥) × Unchanged w) ⊎ (((n ≡ 24) ⊎ (n ≡ 25)) × DropsNamed w)
-  KeepsOn w (answer.Acked c n) = Unit {0}
-  KeepsOn w (answer.Nacked c n) = Unit {0}
-  KeepsOn w (answer.Beat c n) = Unit {0}
-  KeepsOn w (answer.Accepted c) = Unit {0}
-  KeepsOn w (answer.Delivered c v n) = Unit {0}
-
-  abbrev pub Keeps : After → Type 0
-  Keeps w = KeepsOn w (w .answer)
+  abbrev Keeps : After → Type 0
+  Keeps w = KeepsOn l p s o w (w .answer)
 
   refused-keeps : (n : ℕ) → n ≤ 23 → Keeps (record { answer = answer.Refused n; link = l; pool = p; out = o })
   refused-keeps n h = let d = other-number n h in inl (d .0, d .1, (refl, refl, refl))
@@ -173,6 +149,9 @@ module _ (l : Link) (p s o : List ℕ) where
   reading-keeps g (reading.Refused n) f = refused-keeps n (omega (arith, is-refused s n f .fault, fault-most (frontOf s)))
   reading-keeps g (reading.Frame h e) f = frame-keeps h e f g
 
-  pub call-keeps : (g : Grant) → Keeps (callOf l p s o g)
+  call-keeps : (g : Grant) → Keeps (callOf l p s o g)
   unfolding callOf
   call-keeps g = unless-elim Keeps (guardOf l (length p) g) _ _ (λ t. refused-keeps 10 (omega arith)) (λ t. reading-keeps g (readOf s) refl)
+
+pub refusal-keeps : RefusalKeeps
+refusal-keeps l p s o g = call-keeps l p s o g

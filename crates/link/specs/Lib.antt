@@ -1,6 +1,7 @@
 pub mod State
 pub mod Reply
 pub mod Call
+pub mod Refusal
 pub mod Book
 pub mod Claim
 pub mod Pages

@@ -1,0 +1,52 @@
+-- Demand 1's last sentence: "A refusal changes no lent byte and no state (24 and 25 drop the one message they name)." Proved in proofs/Refusals.
+-- Assumes nothing.
+use Prim.Native.Nat.{ℕ}
+use mathlib.Core.Path.{_≡_}
+use mathlib.Core.Logic.{_⊎_}
+use mathlib.Core.List.{List}
+use lib.ListN.{getD}
+use Rattle.frame.specs.declared.Header.{Header}
+use Rattle.frame.specs.declared.Extent.{Extent}
+use Rattle.frame.specs.declared.Reading.the-variants as reading
+use Rattle.frame.specs.Read.{readOf}
+use Rattle.blocks.specs.Map.{released}
+use Rattle.session.specs.Rows.{noRow, droppedRow}
+use Rattle.session.specs.Decide.{placeOf}
+use Rattle.link.specs.declared.Link.{Link}
+use Rattle.link.specs.declared.Grant.{Grant}
+use Rattle.link.specs.declared.Answer.{Answer}
+use Rattle.link.specs.declared.Answer.the-variants as answer
+use Rattle.link.specs.State.{indexOf, ownerOf, withRow, withOwners}
+use Rattle.link.specs.Call.{After, callOf}
+
+-- link, pool, input and out of a call; what the call leaves comes last
+module _ (l : Link) (p s o : List ℕ) where
+  abbrev pub Unchanged : After → Type 0
+  Unchanged w = (w .link ≡ l) × (w .pool ≡ p) × (w .out ≡ o)
+
+  -- the link without the open message of row i at a place: its row without it, its blocks free
+  abbrev pub without : ℕ → ℕ → Link
+  without i place = withOwners (withRow l i (droppedRow (getD (l .rows) i noRow) place)) (released (ownerOf i place) (ownerOf i place) (l .owners))
+
+  -- the message of the frame's session on the frame's service is dropped, and nothing else changes; 22 and 23 come before, so it is open under
+  -- the frame's message id
+  pub record DropsNamed (w : After) : Type 0 where
+    pub header : Header
+    pub extent : Extent
+    pub read : readOf s ≡ reading.Frame header extent
+    pub link : w .link ≡ without (indexOf (header .session .0) (l .rows)) (placeOf (header .service .0))
+    pub pool : w .pool ≡ p
+    pub out : w .out ≡ o
+
+  abbrev pub KeepsOn : After → Answer → Type 0
+  KeepsOn w (answer.Short n) = Unchanged w
+  KeepsOn w (answer.Refused n) = ((n ≡ 24 → ⊥) × (n ≡ 25 → ⊥) × Unchanged w) ⊎ (((n ≡ 24) ⊎ (n ≡ 25)) × DropsNamed w)
+  KeepsOn w (answer.Acked c n) = Unit {0}
+  KeepsOn w (answer.Nacked c n) = Unit {0}
+  KeepsOn w (answer.Beat c n) = Unit {0}
+  KeepsOn w (answer.Accepted c) = Unit {0}
+  KeepsOn w (answer.Delivered c v n) = Unit {0}
+
+-- for every state, pool, input, out and offer
+abbrev pub RefusalKeeps : Type 0
+RefusalKeeps = (l : Link) (p s o : List ℕ) (g : Grant) → KeepsOn l p s o (callOf l p s o g) (callOf l p s o g .answer)
