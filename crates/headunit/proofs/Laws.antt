@@ -8,7 +8,7 @@ use mathlib.Core.List.{List, [], _++_, append-nil}
 use native.Mathlib.Omega.{arith}
 use lib.ListN.{length, getD, take, drop, drop-of-length-le}
 use lib.Seq.{take-at}
-use borrow.Author.Tests.{le-leb, leb-true, eq-eqb, eqb-true, eqb-false, ne-eqb}
+use borrow.Author.Tests.{le-leb, leb-true, lt-ltb, eq-eqb, eqb-true, eqb-false, ne-eqb}
 use borrow.Rule.Slice.PartMut.{putMid}
 use Rattle.numbers.specs.Bytes.{unless, part, laid, putAt}
 use Rattle.numbers.specs.Numbers.{bytesBe}
@@ -37,6 +37,8 @@ use Rattle.payload.proofs.TopLevel.{AcceptedHolds, VersionInside, version-insid
 use Rattle.payload.specs.declared.reply.Parameter.{Parameter}
 use Rattle.payload.specs.declared.reply.Parameter.the-variants as parameter
 use Rattle.payload.specs.Tags.{protocolVersion, hashId}
+use Rattle.payload.specs.declared.version.Version.{Version}
+use Rattle.payload.specs.Version.{lesserOf}
 use Rattle.payload.specs.Reply.{serviceAckPayload, nakPayload, nameOf}
 use Rattle.payload.proofs.Replies.{length-nak}
 use Rattle.blocks.specs.Map.{released}
@@ -54,13 +56,14 @@ use Rattle.link.specs.declared.Link.{Link}
 use Rattle.link.specs.declared.Grant.{Grant}
 use Rattle.link.specs.declared.Answer.the-variants as answer
 use Rattle.link.specs.State.{indexOf, lowestFree, ownerOf, versionAllowed, rowFits, rulesHold, settingsFit, grantFits, guardOf, withRow, withOwners}
-use Rattle.link.specs.Call.{After, saidOf, decisionOf, applied}
+use Rattle.link.specs.Call.{After, wishOf, opens, opened, openingBy, saidOf, decisionOf, applied, frameOf, callOf}
 use Rattle.link.proofs.Shown.{and-both, rules-say}
 use Rattle.link.proofs.Holdings.{row-fits-at, row-rules}
 use Rattle.link.proofs.Table.{index-row}
-use Rattle.link.specs.Reply.{replyHeader, replyBytes, grantedPayload}
+use Rattle.link.specs.Reply.{replyHeader, replyBytes, newAck, grantedPayload}
 use Rattle.link.proofs.Replies.{reply-sound}
-use Rattle.headunit.specs.Unit.{Sent, sent, sentOf, countOf, payloadCountOf, Roomy, Serves}
+use Rattle.headunit.specs.declared.replies.From.{From}
+use Rattle.headunit.specs.Unit.{Sent, sent, sentOf, countOf, payloadCountOf, Roomy, repliedWith, fromOf, Serves}
 
 -- the writer's answer as a count and a buffer
 abbrev pub sentBy : Wrote → Sent
@@ -135,22 +138,29 @@ module _ (l : Link) (i : ℕ) (h : Header) (consumed : ℕ) (payload pool out : 
   at place = messageAt (getD (l .rows) i noRow) place
 
   -- the same facts give the call's definition, where place is the service's
-  abbrev Delivers : ℕ → ℕ → List ℕ → List ℕ → Link → Type 0
-  Delivers place x pool′ out′ changed =
-      x ≡ ownerOf i place → pool′ ≡ appended x (at place .total - at place .missing) payload (l .owners) pool → out′ ≡ delivered x (at place .total) (l .owners) pool′ out
+  -- x is the owner that the message is written from, `size` the bytes written, `told` those of the answer
+  abbrev Delivers : ℕ → ℕ → ℕ → ℕ → List ℕ → List ℕ → Link → Type 0
+  Delivers place x size told pool′ out′ changed =
+      x ≡ ownerOf i place → pool′ ≡ appended (ownerOf i place) (at place .total - at place .missing) payload (l .owners) pool → out′ ≡ delivered x size (l .owners) pool′ out
+      → size ≡ at place .total → told ≡ at place .total
       → changed ≡ withOwners (withRow l i (rowAfter (getD (l .rows) i noRow) h 0 Deliver)) (released x x (l .owners)) → at place .total ≤ length out
-      → _≡_ {A = After} (record { answer = answer.Delivered consumed (h .service) (at place .total); link = changed; pool = pool′; out = out′ }) (applied l i pool out h consumed payload g Deliver)
+      → _≡_ {A = After} (record { answer = answer.Delivered consumed (h .service) told; link = changed; pool = pool′; out = out′ }) (applied l i pool out h consumed payload g Deliver)
 
-  at-place : (x : ℕ) (pool′ out′ : List ℕ) (changed : Link) → Delivers (placeOf (h .service .0)) x pool′ out′ changed
-  at-place x pool′ out′ changed k a d c room =
+  at-place : (x size told : ℕ) (pool′ out′ : List ℕ) (changed : Link) → Delivers (placeOf (h .service .0)) x size told pool′ out′ changed
+  at-place x size told pool′ out′ changed k a d n m c room =
       let o : out′ ≡ laid (take (at (placeOf (h .service .0)) .total) (blockBytes x (l .owners) pool′)) out
-      = d ∙ deliver-laid x (at (placeOf (h .service .0)) .total) (l .owners) pool′ out room in
-      rw (c, o, a, k)
+      = d ∙ ap (λ (due : ℕ). delivered x due (l .owners) pool′ out) n ∙ deliver-laid x (at (placeOf (h .service .0)) .total) (l .owners) pool′ out room in
+      rw (c, o, a, k, m)
 
-  pub delivered-is : (place x : ℕ) (pool′ out′ : List ℕ) (changed : Link) → place ≡ placeOf (h .service .0) → Delivers place x pool′ out′ changed
-  delivered-is place x pool′ out′ changed e = subst (λ (p : ℕ). Delivers p x pool′ out′ changed) (sym e) (at-place x pool′ out′ changed)
+  pub delivered-is : (place x size told : ℕ) (pool′ out′ : List ℕ) (changed : Link) → place ≡ placeOf (h .service .0) → Delivers place x size told pool′ out′ changed
+  delivered-is place x size told pool′ out′ changed e = subst (λ (p : ℕ). Delivers p x size told pool′ out′ changed) (sym e) (at-place x size told pool′ out′ changed)
 
 -- ---- what the call's parts need of each other
+
+-- what a decision does, by the decision's form
+pub applied-by : (l : Link) (i : ℕ) (p o : List ℕ) (h : Header) (consumed : ℕ) (payload : List ℕ) (g : Grant) (act known : Act) {x : After} → act ≡ known
+    → x ≡ applied l i p o h consumed payload g known → x ≡ applied l i p o h consumed payload g act
+applied-by l i p o h consumed payload g act known e q = q ∙ ap (λ (d : Act). applied l i p o h consumed payload g d) (sym e)
 
 -- out has room for what is decided
 module _ (room size total : ℕ) where
@@ -244,6 +254,42 @@ opened-link l i id r q g v w e f k m n =
     ∙ ap (λ (x : Row). withRow l i x) (m ∙ ap (λ (x : ℕ). openedRow id (g .guarantee) (g .cap) x (g .hash)) k ∙ ap (λ (x : ℕ). openedRow (record { 0 = x }) (g .guarantee) (g .cap) w (g .hash)) f)
     ∙ ap (λ (x : ℕ). withRow l x (openedRow (record { 0 = lowestFree 255 1 (l .rows) }) (g .guarantee) (g .cap) w (g .hash))) e
 
+-- the same with its ACK in version 5: n bytes of out are written, o′ is out after it
+pub new-opened : (l : Link) (i consumed : ℕ) (g : Grant) (wish v : Version) (id : SessionId) (r : Row) (q : Link) (n : ℕ) (o o′ p : List ℕ) → i ≡ indexOf 0 (l .rows)
+    → id .0 ≡ lowestFree 255 1 (l .rows) → v ≡ lesserOf (l .version) wish → r ≡ openedRow id (g .guarantee) (g .cap) 5 (g .hash) → q ≡ withRow l i r
+    → sent n o′ ≡ sentOf (newAck (id .0) (g .hash) (l .mtu) v) o
+    → repliedWith answer.Acked consumed q p (sent n o′) ≡ opened l p o consumed g 5 (newAck (lowestFree 255 1 (l .rows)) (g .hash) (l .mtu) (lesserOf (l .version) wish))
+new-opened l i consumed g wish v id r q n o o′ p at lowest settled row link written =
+    let ack : ℕ → Version → Sent = λ k x. sentOf (newAck k (g .hash) (l .mtu) x) o in
+    ap (repliedWith answer.Acked consumed q p) (written ∙ ap (λ (x : Version). ack (id .0) x) settled ∙ ap (λ (k : ℕ). ack k (lesserOf (l .version) wish)) lowest)
+    ∙ ap (λ (x : Link). repliedWith answer.Acked consumed x p (ack (lowestFree 255 1 (l .rows)) (lesserOf (l .version) wish))) (opened-link l i id r q g 5 5 at lowest refl row link)
+
+-- an End's ACK: it carries the number of row i's next ACK
+pub ended : (l : Link) (i : ℕ) (h : Header) (consumed number : ℕ) (f : From) (q c : Link) (n : ℕ) (o o′ p : List ℕ) → f ≡ fromOf l i h → q ≡ c
+    → sent n o′ ≡ sentOf (replyBytes (f .version) (f .service) 0x05 (f .session .0) number []) o → number ≡ getD (l .rows) i noRow .next
+    → repliedWith answer.Acked consumed q p (sent n o′)
+    ≡ repliedWith answer.Acked consumed c p (sentOf (replyBytes (fromOf l i h .version) (h .service) 0x05 (fromOf l i h .session .0) (getD (l .rows) i noRow .next) []) o)
+ended l i h consumed number f q c n o o′ p from changed written counted =
+    ap (repliedWith answer.Acked consumed q p) (written ∙ ap (λ (x : From). sentOf (replyBytes (x .version) (x .service) 0x05 (x .session .0) number []) o) from
+    ∙ ap (λ (k : ℕ). sentOf (replyBytes (fromOf l i h .version) (h .service) 0x05 (fromOf l i h .session .0) k []) o) counted)
+    ∙ ap (λ (x : Link). repliedWith answer.Acked consumed x p (sentOf (replyBytes (fromOf l i h .version) (h .service) 0x05 (fromOf l i h .session .0) (getD (l .rows) i noRow .next) []) o)) changed
+
+-- the same of a service's start
+pub started : (l : Link) (i : ℕ) (h : Header) (consumed : ℕ) (g : Grant) (r : Row) (f : From) (q c : Link) (n : ℕ) (o o′ p : List ℕ) → f ≡ fromOf l i h → q ≡ c
+    → sent n o′ ≡ sentOf (replyBytes (f .version) (f .service) 0x02 (f .session .0) (r .next) (grantedPayload (r .version) (g .hash) (l .mtu))) o → r ≡ getD (l .rows) i noRow
+    → repliedWith answer.Acked consumed q p (sent n o′)
+    ≡ repliedWith answer.Acked consumed c p (sentOf (replyBytes (fromOf l i h .version) (h .service) 0x02 (fromOf l i h .session .0) (getD (l .rows) i noRow .next) (grantedPayload (getD (l .rows) i noRow .version) (g .hash) (l .mtu))) o)
+started l i h consumed g r f q c n o o′ p from changed written row =
+    let ack : From → Row → Sent = λ x y. sentOf (replyBytes (x .version) (x .service) 0x02 (x .session .0) (y .next) (grantedPayload (y .version) (g .hash) (l .mtu))) o in
+    ap (repliedWith answer.Acked consumed q p) (written ∙ ap (λ (x : From). ack x r) from ∙ ap (λ (y : Row). ack (fromOf l i h) y) row)
+    ∙ ap (λ (x : Link). repliedWith answer.Acked consumed x p (ack (fromOf l i h) (getD (l .rows) i noRow))) changed
+
+-- Short tells what the reader needs
+pub short-is : (l : Link) (p s o : List ℕ) (g : Grant) (needed : ℕ) → guardOf l (length p) g ≡ true → readOf s ≡ reading.Short needed
+    → _≡_ {A = After} (record { answer = answer.Short needed; link = l; pool = p; out = o }) (callOf l p s o g)
+unfolding callOf
+short-is l p s o g needed guard read = rw (guard, read)
+
 -- an accepted payload's version string lies inside it
 pub inside : (s : List ℕ) (t : Tags) → payloadOf s ≡ Accepted t → t .version .found ≡ true → t .version .at + t .version .length ≤ length s
 inside s t e f = omega (arith, subst (AcceptedHolds (VersionInside s)) e (version-inside s) f .0)
@@ -256,3 +302,14 @@ serves l n g i s h e out guard read at eight below z room =
     let id : getD (l .rows) i noRow .id .0 ≡ h .session .0 = ap (λ (x : ℕ). getD (l .rows) x noRow .id .0) at ∙ index-row (h .session .0) (l .rows) there in
     let v = guard-version l n g i guard (omega arith) (λ x. z (sym id ∙ x)) in
     (below, (room, (v .0, (v .1, fault-none h (frame-sound s h e read) .service))))
+
+-- a frame with room in out: an opening, or one of the session in row i
+module _ (l : Link) (p s o : List ℕ) (h : Header) (e : Extent) (g : Grant) (payload : List ℕ) (room : 128 ≤ length o) (is : payload ≡ part s (e .start) (e .end - e .start)) where
+  pub frame-opens : {x : After} → opens h ≡ true → x ≡ openingBy l p o (e .consumed) g (wishOf (l .version .major) payload) → x ≡ frameOf l p s o h e g
+  unfolding frameOf
+  frame-opens opening q = q ∙ rw (le-leb 128 (length o) room, opening, is)
+
+  pub frame-within : (i : ℕ) {x : After} → opens h ≡ false → (h .session .0 ≡ 0 → ⊥) → i ≡ indexOf (h .session .0) (l .rows) → length (l .rows) ≡ 8 → i < 8
+      → x ≡ applied l i p o h (e .consumed) payload g (decisionOf l i h payload (length o)) → x ≡ frameOf l p s o h e g
+  unfolding frameOf
+  frame-within i other z at eight below q = q ∙ rw (le-leb 128 (length o) room, other, ne-eqb (h .session .0) 0 z, ← at, eight, lt-ltb i 8 below, is)

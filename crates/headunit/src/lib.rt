@@ -15,8 +15,9 @@ ghost use Rattle.payload.specs.Tags.{protocolVersion};
 ghost use Rattle.payload.specs.Version.{versionOf, lesserOf};
 ghost use Rattle.payload.specs.Reply.{nakPayload};
 ghost use Rattle.blocks.specs.Map.{claimed, released};
+ghost use Rattle.blocks.specs.Pool.{appended};
 ghost use Rattle.session.specs.Rows.{noRow, messageAt};
-ghost use Rattle.session.specs.Decide.{placeOf, shareOf};
+ghost use Rattle.session.specs.Decide.{placeOf, shareOf, rowAfter};
 ghost use Rattle.session.specs.Rules.{replyVersion};
 ghost use Rattle.session.specs.declared.Act.the-variants.{Drop, Beat, Start, NoStart, Stop, Close, NoEnd, Claim, Append, Deliver, Single};
 ghost use Rattle.link.specs.declared.Grant.{Grant as Offer};
@@ -38,6 +39,7 @@ use payload::reply::Parameter;
 use payload::version::Version;
 use replies::From;
 use session::Act;
+use session::Reassembly;
 use session::Row;
 use session::Said;
 
@@ -76,6 +78,25 @@ fn owner(i: usize, place: usize) -> Owner
     ensures { λ r. ⌜ r .0 ≡ ownerOf i place ⌝ }
 {
     Owner((1 + (i * 5 + place)) as u8)
+}
+
+// Row i.
+fn row_at(link: Link, i: usize) -> Row
+    requires { ⌜ i < 8 ⌝ }
+    ensures { λ r. ⌜ r ≡ getD (link .rows) i noRow ⌝ }
+{
+    let rows = link.rows;
+    rows[i]
+}
+
+// Row i after a decision; hash is the offer's.
+fn row_then(link: Link, i: usize, header: Header, hash: u32, act: Act) -> Row
+    requires { ⌜ i < 8 ⌝ }
+    ensures { λ r. ⌜ r ≡ rowAfter (getD (link .rows) i noRow) header hash act ⌝ }
+{
+    let rows = link.rows;
+    let row = rows[i];
+    session::row_after(row, header, hash, act)
 }
 
 // The link with row i as given.
@@ -153,10 +174,8 @@ fn drop(link: Link, i: usize, header: Header, number: u8) -> Called
     requires { ⌜ i < 8 ⌝ }
     ensures { λ r. ⌜ ((p o payload : List ℕ) (consumed : ℕ) (g : Offer) → leaves r p o ≡ applied link i p o header consumed payload g (Drop number)) ⌝ }
 {
-    let rows = link.rows;
-    let row = rows[i];
     let mine = owner(i, session::place_of(header.service));
-    let after = session::row_after(row, header, 0, Act::Drop(number));
+    let after = row_then(link, i, header, 0, Act::Drop(number));
     Called {
         answer: Answer::Refused(number),
         link: freed(link, i, after, mine, mine),
@@ -168,10 +187,8 @@ fn claim(link: Link, i: usize, header: Header, consumed: usize, total: u32, coun
     requires { ⌜ i < 8 ⌝ }
     ensures { λ r. ⌜ ((p o payload : List ℕ) (g : Offer) → leaves r p o ≡ applied link i p o header consumed payload g (Claim total count)) ⌝ }
 {
-    let rows = link.rows;
-    let row = rows[i];
     let mine = owner(i, session::place_of(header.service));
-    let after = session::row_after(row, header, 0, Act::Claim(total, count));
+    let after = row_then(link, i, header, 0, Act::Claim(total, count));
     let need = session::need_of(total);
     Called {
         answer: Answer::Accepted(consumed),
@@ -184,8 +201,7 @@ fn from(link: Link, i: usize, header: Header) -> From
     requires { ⌜ i < 8 ⌝ }
     ensures { λ r. ⌜ r ≡ fromOf link i header ⌝ }
 {
-    let rows = link.rows;
-    let row = rows[i];
+    let row = row_at(link, i);
     let service = header.service;
     let session = row.id;
     From {
@@ -224,10 +240,9 @@ fn stop(link: Link, i: usize, header: Header, consumed: usize, out: &mut [u8]) -
     requires { ⌜ Serves link i header (now out) ⌝ }
     ensures { λ r. ⌜ ((p payload : List ℕ) (g : Offer) → leaves r p (now (out .exit)) ≡ applied link i p (now (out .entry)) header consumed payload g Stop) ⌝ }
 {
-    let rows = link.rows;
-    let row = rows[i];
+    let row = row_at(link, i);
     let mine = owner(i, session::place_of(header.service));
-    let after = session::row_after(row, header, 0, Act::Stop);
+    let after = row_then(link, i, header, 0, Act::Stop);
     let size = replies::put_empty(from(link, i, header), replies::END_ACK, row.next, out);
     Called {
         answer: Answer::Acked(consumed, size),
@@ -240,9 +255,8 @@ fn close(link: Link, i: usize, header: Header, consumed: usize, out: &mut [u8]) 
     requires { ⌜ Serves link i header (now out) ⌝ }
     ensures { λ r. ⌜ ((p payload : List ℕ) (g : Offer) → leaves r p (now (out .exit)) ≡ applied link i p (now (out .entry)) header consumed payload g Close) ⌝ }
 {
-    let rows = link.rows;
-    let row = rows[i];
-    let size = replies::put_empty(from(link, i, header), replies::END_ACK, row.next, out);
+    let closing = row_at(link, i);
+    let size = replies::put_empty(from(link, i, header), replies::END_ACK, closing.next, out);
     Called {
         answer: Answer::Acked(consumed, size),
         link: freed(link, i, Row::free(), owner(i, 0), owner(i, 4)),
@@ -261,9 +275,8 @@ fn start(
     requires { ⌜ Serves link i header (now out) ⌝ }
     ensures { λ r. ⌜ ((p payload : List ℕ) → leaves r p (now (out .exit)) ≡ applied link i p (now (out .entry)) header consumed payload grant Start) ⌝ }
 {
-    let rows = link.rows;
-    let row = rows[i];
-    let after = session::row_after(row, header, grant.hash, Act::Start);
+    let row = row_at(link, i);
+    let after = row_then(link, i, header, grant.hash, Act::Start);
     let size = replies::put_started(
         from(link, i, header),
         row.version,
@@ -304,7 +317,27 @@ fn less(a: u32, b: u32) -> u32
     if a < b { 0 } else { a - b }
 }
 
-// The payload goes to the message's blocks, right behind the bytes that are there.
+// Row i's message at a place.
+fn message_at(link: Link, i: usize, place: usize) -> Reassembly
+    requires { ⌜ (i < 8) × (place < 5) ⌝ }
+    ensures { λ r. ⌜ r ≡ messageAt (getD (link .rows) i noRow) place ⌝ }
+{
+    let rows = link.rows;
+    let row = rows[i];
+    row.messages[place]
+}
+
+// A payload goes to the blocks of row i's message at a place, right behind the bytes that are there.
+fn feed(link: Link, i: usize, place: usize, payload: &[u8], pool: &mut [u8])
+    requires { ⌜ (i < 8) × (place < 5) ⌝ }
+    ensures { λ _. ⌜ now (pool .exit) ≡ appended (ownerOf i place) (messageAt (getD (link .rows) i noRow) place .total - messageAt (getD (link .rows) i noRow) place .missing) (now (payload .entry)) (link .owners) (now (pool .entry)) ⌝ }
+{
+    let message = message_at(link, i, place);
+    let there = less(message.total, message.missing) as usize;
+    blocks::append(&link.owners, owner(i, place), there, payload, pool);
+}
+
+// A consecutive frame that is not its message's last.
 fn append(
     link: Link,
     i: usize,
@@ -316,20 +349,16 @@ fn append(
     requires { ⌜ i < 8 ⌝ }
     ensures { λ r. ⌜ ((o : List ℕ) (g : Offer) → leaves r (now (pool .exit)) o ≡ applied link i (now (pool .entry)) o header consumed (now (payload .entry)) g Append) ⌝ }
 {
-    let rows = link.rows;
-    let row = rows[i];
     let place = session::place_of(header.service);
-    let message = row.messages[place];
-    let there = less(message.total, message.missing) as usize;
-    blocks::append(&link.owners, owner(i, place), there, payload, pool);
-    let after = session::row_after(row, header, 0, Act::Append);
+    feed(link, i, place, payload, pool);
+    let after = row_then(link, i, header, 0, Act::Append);
     Called {
         answer: Answer::Accepted(consumed),
         link: with_row(link, i, after),
     }
 }
 
-// So does the last payload; then the message is written to the front of out, and its blocks are free.
+// The last one: the message is written to the front of out, and its blocks are free.
 fn deliver(
     link: Link,
     i: usize,
@@ -342,18 +371,16 @@ fn deliver(
     requires { ⌜ (i < 8) × (messageAt (getD (link .rows) i noRow) (placeOf (header .service .0)) .total ≤ length (now out)) ⌝ }
     ensures { λ r. ⌜ ((g : Offer) → leaves r (now (pool .exit)) (now (out .exit)) ≡ applied link i (now (pool .entry)) (now (out .entry)) header consumed (now (payload .entry)) g Deliver) ⌝ }
 {
-    let rows = link.rows;
-    let row = rows[i];
     let place = session::place_of(header.service);
-    let message = row.messages[place];
-    let there = less(message.total, message.missing) as usize;
+    feed(link, i, place, payload, pool);
     let mine = owner(i, place);
-    blocks::append(&link.owners, mine, there, payload, pool);
-    blocks::deliver(&link.owners, mine, message.total as usize, pool, out);
-    let after = session::row_after(row, header, 0, Act::Deliver);
+    let message = message_at(link, i, place);
+    let size = message.total as usize;
+    blocks::deliver(&link.owners, mine, size, pool, out);
+    let after = row_then(link, i, header, 0, Act::Deliver);
     let service = header.service;
     Called {
-        answer: Answer::Delivered(consumed, service, message.total as usize),
+        answer: Answer::Delivered(consumed, service, size),
         link: freed(link, i, after, mine, mine),
     }
 }
@@ -370,10 +397,8 @@ fn single(
     requires { ⌜ (i < 8) × (length (now payload) ≤ length (now out)) ⌝ }
     ensures { λ r. ⌜ ((p : List ℕ) (g : Offer) → leaves r p (now (out .exit)) ≡ applied link i p (now (out .entry)) header consumed (now (payload .entry)) g Single) ⌝ }
 {
-    let rows = link.rows;
-    let row = rows[i];
     put_front(payload, out);
-    let after = session::row_after(row, header, 0, Act::Single);
+    let after = row_then(link, i, header, 0, Act::Single);
     let service = header.service;
     Called {
         answer: Answer::Delivered(consumed, service, payload.len()),

@@ -1,26 +1,14 @@
 -- `headunit::apply` meets its contract.
 -- Assumes nothing.
-use mathlib.Core.Path.{_∙_, subst}
+use mathlib.Core.Path.{subst}
 use lib.ListN.{length, getD}
 use Rattle.session.specs.Rows.{noRow, messageAt}
 use Rattle.session.specs.Decide.{placeOf}
 use Rattle.headunit.specs.Unit.{Roomy}
+use Rattle.headunit.proofs.Laws.{applied-by}
 use borrow.Author.Needs.{needs}
 use Rattle.headunit.proofs.apply.Statement.{statement}
 use Rattle.headunit.proofs.apply.Tie as tie
-use Rattle.headunit.proofs.apply.Reads as reads
-use Rattle.headunit.proofs.apply.Lts as lts
-use Rattle.headunit.proofs.append.Reads as append-reads
-use Rattle.headunit.proofs.beat.Reads as beat-reads
-use Rattle.headunit.proofs.claim.Reads as claim-reads
-use Rattle.headunit.proofs.close.Reads as close-reads
-use Rattle.headunit.proofs.deliver.Reads as deliver-reads
-use Rattle.headunit.proofs.drop.Reads as drop-reads
-use Rattle.headunit.proofs.no_end.Reads as no-end-reads
-use Rattle.headunit.proofs.no_start.Reads as no-start-reads
-use Rattle.headunit.proofs.single.Reads as single-reads
-use Rattle.headunit.proofs.start.Reads as start-reads
-use Rattle.headunit.proofs.stop.Reads as stop-reads
 
 -- src/lib.rt:312:21
 enum-known-act : tie.Need-enum-known-act
@@ -130,7 +118,7 @@ returns c = rw (c .before .act .given .1)
 returns-2 : tie.Need-returns-2
 returns-2 c =
     let a = (c .before .before .before .before .before .before .before .args) in
-    (c .drop .ensures) (a .pool .now) (a .out .now) (a .payload .now) (a .consumed) (a .grant) ∙ rw (c .before .before .act2 .given .1)
+    applied-by (a .link) (a .i) (a .pool .now) (a .out .now) (a .header) (a .consumed) (a .payload .now) (a .grant) _ _ (c .before .before .act2 .given .1) ((c .drop .ensures) (a .pool .now) (a .out .now) (a .payload .now) (a .consumed) (a .grant))
 
 -- src/lib.rt:307:1
 returns-3 : tie.Need-returns-3
@@ -144,7 +132,7 @@ same-length c = search needs
 returns-4 : tie.Need-returns-4
 returns-4 c =
     let a = (c .before .before .before .before .before .before .before .before .before .args) in
-    (c .before .before .beat .ensures) (a .pool .now) (a .payload .now) (a .grant) ∙ rw (c .before .before .before .before .enum-told2 .given .1)
+    applied-by (a .link) (a .i) (a .pool .now) (a .out .now) (a .header) (a .consumed) (a .payload .now) (a .grant) _ _ (c .before .before .before .before .enum-told2 .given .1) ((c .before .before .beat .ensures) (a .pool .now) (a .payload .now) (a .grant))
 
 -- src/lib.rt:307:1
 same-length-2 : tie.Need-same-length-2
@@ -154,7 +142,7 @@ same-length-2 c = search needs
 returns-5 : tie.Need-returns-5
 returns-5 c =
     let a = (c .before .before .before .before .before .before .before .before .before .args) in
-    (c .before .before .start .ensures) (a .pool .now) (a .payload .now) ∙ rw (c .before .before .before .before .enum-told3 .given .1)
+    applied-by (a .link) (a .i) (a .pool .now) (a .out .now) (a .header) (a .consumed) (a .payload .now) (a .grant) _ _ (c .before .before .before .before .enum-told3 .given .1) ((c .before .before .start .ensures) (a .pool .now) (a .payload .now))
 
 -- src/lib.rt:307:1
 same-length-3 : tie.Need-same-length-3
@@ -164,7 +152,7 @@ same-length-3 c = search needs
 returns-6 : tie.Need-returns-6
 returns-6 c =
     let a = (c .before .before .before .before .before .before .before .before .before .args) in
-    (c .before .before .no-start .ensures) (a .pool .now) (a .payload .now) (a .grant) ∙ rw (c .before .before .before .before .enum-told4 .given .1)
+    applied-by (a .link) (a .i) (a .pool .now) (a .out .now) (a .header) (a .consumed) (a .payload .now) (a .grant) _ _ (c .before .before .before .before .enum-told4 .given .1) ((c .before .before .no-start .ensures) (a .pool .now) (a .payload .now) (a .grant))
 
 -- src/lib.rt:307:1
 same-length-4 : tie.Need-same-length-4
@@ -174,7 +162,7 @@ same-length-4 c = search needs
 returns-7 : tie.Need-returns-7
 returns-7 c =
     let a = (c .before .before .before .before .before .before .before .before .before .args) in
-    (c .before .before .stop .ensures) (a .pool .now) (a .payload .now) (a .grant) ∙ rw (c .before .before .before .before .enum-told5 .given .1)
+    applied-by (a .link) (a .i) (a .pool .now) (a .out .now) (a .header) (a .consumed) (a .payload .now) (a .grant) _ _ (c .before .before .before .before .enum-told5 .given .1) ((c .before .before .stop .ensures) (a .pool .now) (a .payload .now) (a .grant))
 
 -- src/lib.rt:307:1
 same-length-5 : tie.Need-same-length-5
@@ -184,7 +172,7 @@ same-length-5 c = search needs
 returns-8 : tie.Need-returns-8
 returns-8 c =
     let a = (c .before .before .before .before .before .before .before .before .before .args) in
-    (c .before .before .close .ensures) (a .pool .now) (a .payload .now) (a .grant) ∙ rw (c .before .before .before .before .enum-told6 .given .1)
+    applied-by (a .link) (a .i) (a .pool .now) (a .out .now) (a .header) (a .consumed) (a .payload .now) (a .grant) _ _ (c .before .before .before .before .enum-told6 .given .1) ((c .before .before .close .ensures) (a .pool .now) (a .payload .now) (a .grant))
 
 -- src/lib.rt:307:1
 same-length-6 : tie.Need-same-length-6
@@ -194,13 +182,13 @@ same-length-6 c = search needs
 returns-9 : tie.Need-returns-9
 returns-9 c =
     let a = (c .before .before .before .before .before .before .before .before .before .before .args) in
-    (c .before .before .no-end .ensures) (a .pool .now) (a .payload .now) (a .grant) ∙ rw (c .before .before .before .before .before .act3 .given .1)
+    applied-by (a .link) (a .i) (a .pool .now) (a .out .now) (a .header) (a .consumed) (a .payload .now) (a .grant) _ _ (c .before .before .before .before .before .act3 .given .1) ((c .before .before .no-end .ensures) (a .pool .now) (a .payload .now) (a .grant))
 
 -- src/lib.rt:307:1
 returns-10 : tie.Need-returns-10
 returns-10 c =
     let a = (c .before .before .before .before .before .before .before .args) in
-    (c .claim .ensures) (a .pool .now) (a .out .now) (a .payload .now) (a .grant) ∙ rw (c .before .before .act4 .given .1)
+    applied-by (a .link) (a .i) (a .pool .now) (a .out .now) (a .header) (a .consumed) (a .payload .now) (a .grant) _ _ (c .before .before .act4 .given .1) ((c .claim .ensures) (a .pool .now) (a .out .now) (a .payload .now) (a .grant))
 
 -- src/lib.rt:307:1
 same-length-7 : tie.Need-same-length-7
@@ -210,7 +198,7 @@ same-length-7 c = search needs
 returns-11 : tie.Need-returns-11
 returns-11 c =
     let a = (c .before .before .before .before .before .before .before .before .before .args) in
-    (c .before .before .append .ensures) (a .out .now) (a .grant) ∙ rw (c .before .before .before .before .enum-told7 .given .1)
+    applied-by (a .link) (a .i) (a .pool .now) (a .out .now) (a .header) (a .consumed) (a .payload .now) (a .grant) _ _ (c .before .before .before .before .enum-told7 .given .1) ((c .before .before .append .ensures) (a .out .now) (a .grant))
 
 -- src/lib.rt:307:1
 same-length-8 : tie.Need-same-length-8
@@ -224,7 +212,7 @@ same-length-9 c = search needs
 returns-12 : tie.Need-returns-12
 returns-12 c =
     let a = (c .before .before .before .before .before .before .before .before .before .before .before .before .args) in
-    (c .before .before .before .before .deliver .ensures) (a .grant) ∙ rw (c .before .before .before .before .before .before .before .enum-told8 .given .1)
+    applied-by (a .link) (a .i) (a .pool .now) (a .out .now) (a .header) (a .consumed) (a .payload .now) (a .grant) _ _ (c .before .before .before .before .before .before .before .enum-told8 .given .1) ((c .before .before .before .before .deliver .ensures) (a .grant))
 
 -- src/lib.rt:307:1
 same-length-10 : tie.Need-same-length-10
@@ -234,7 +222,7 @@ same-length-10 c = search needs
 returns-13 : tie.Need-returns-13
 returns-13 c =
     let a = (c .before .before .before .before .before .before .before .before .before .args) in
-    (c .before .before .single .ensures) (a .pool .now) (a .grant) ∙ rw (c .before .before .before .before .enum-told9 .given .1)
+    applied-by (a .link) (a .i) (a .pool .now) (a .out .now) (a .header) (a .consumed) (a .payload .now) (a .grant) _ _ (c .before .before .before .before .enum-told9 .given .1) ((c .before .before .single .ensures) (a .pool .now) (a .grant))
 
 pub apply-spec : {M : Type 1} → statement M
 apply-spec =

@@ -4,6 +4,7 @@ use mathlib.Core.Path.{_∙_, sym}
 use Prim.Native.Nat.{_-_}
 use borrow.Author.Tests.{not-true, not-false}
 use Rattle.link.specs.Call.{callOf}
+use Rattle.headunit.proofs.Laws.{short-is}
 use borrow.Author.Needs.{needs}
 use Rattle.headunit.proofs.call.Statement.{statement}
 use Rattle.headunit.proofs.call.Tie as tie
@@ -44,8 +45,9 @@ take-requires c κs = (sym (c .before .before .before .before .before .read .ens
 
 -- src/lib.rt:533:1
 returns-2 : tie.Need-returns-2
-unfolding callOf
-returns-2 c = rw (sym (c .before .before .before .before .before .guard .ensures) ∙ not-false (c .before .before .before .before .before .guard .result) (c .before .before .before .before .if1 .left), ← (c .before .before .before .read .ensures), (c .before .needed .given .1))
+returns-2 c =
+    let a = (c .before .before .before .before .before .before .before .before .before .args) in
+    short-is (a .link) (a .pool .now) (a .input .now) (a .out .now) (a .grant) _ (sym (c .before .before .before .before .before .guard .ensures) ∙ not-false (c .before .before .before .before .before .guard .result) (c .before .before .before .before .if1 .left)) (sym (c .before .before .before .read .ensures) ∙ (c .before .needed .given .1))
 
 -- src/lib.rt:533:1
 returns-3 : tie.Need-returns-3

@@ -1,83 +1,44 @@
 -- `headunit::close` meets its contract.
 -- Assumes nothing.
-use mathlib.Core.Path.{_∙_, ap}
-use mathlib.Core.List.{[]}
-use Rattle.link.specs.declared.Answer.the-variants as answer
-use Rattle.link.specs.Reply.{replyBytes}
-use Rattle.link.proofs.Replies.{reply-infos}
-use Rattle.headunit.specs.declared.replies.From.{From}
-use Rattle.headunit.specs.Unit.{sentOf, repliedWith}
+use mathlib.Core.Path.{_≡_, ap, _∙_}
 use lib.ListN.{getD}
+use Rattle.session.specs.declared.Row.{Row}
 use Rattle.session.specs.Rows.{noRow}
-use Rattle.link.specs.declared.Link.{Link}
-use Rattle.session.specs.Rules.{replyVersion}
+use Rattle.link.proofs.Replies.{reply-infos}
+use Rattle.headunit.proofs.Laws.{ended}
 use borrow.Author.Needs.{needs}
 use Rattle.headunit.proofs.close.Statement.{statement}
 use Rattle.headunit.proofs.close.Tie as tie
-use Rattle.headunit.proofs.close.Reads as reads
-use Rattle.headunit.proofs.close.Lts as lts
-use Rattle.headunit.proofs.freed.Reads as freed-reads
-use Rattle.headunit.proofs.from.Reads as from-reads
-use Rattle.headunit.proofs.owner.Reads as owner-reads
-use Rattle.headunit.proofs.replies.put_empty.Reads as put-empty-reads
-use Rattle.session.proofs.Row.free.Reads as free-reads
 
--- src/lib.rt:194:15
-mul-row : tie.Need-mul-row
-mul-row c = search needs
+row-at-requires : tie.Need-row-at-requires
+row-at-requires c κs = search needs
 
--- src/lib.rt:194:15
-array-copy-out-row : tie.Need-array-copy-out-row
-array-copy-out-row c = search needs
-
--- src/lib.rt:195:35
 from-requires : tie.Need-from-requires
 from-requires c κs = search needs
 
--- src/lib.rt:195:9
 put-empty-requires : tie.Need-put-empty-requires
-put-empty-requires c κs = ((c .before .before .before .before .before .pre .1 .0), (rw (c .before .from .ensures) (c .before .before .before .before .before .pre .1 .1 .0), (rw (c .before .from .ensures) (c .before .before .before .before .before .pre .1 .1 .1 .0), (rw (c .before .from .ensures) (c .before .before .before .before .before .pre .1 .1 .1 .1), reply-infos .2))))
+put-empty-requires c κs = ((c .before .before .before .before .pre .1 .0), (rw (c .before .from .ensures) (c .before .before .before .before .pre .1 .1 .0), (rw (c .before .from .ensures) (c .before .before .before .before .pre .1 .1 .1 .0), (rw (c .before .from .ensures) (c .before .before .before .before .pre .1 .1 .1 .1), reply-infos .2))))
 
--- src/lib.rt:196:74
 free-requires : tie.Need-free-requires
 free-requires c κs = search needs
 
--- src/lib.rt:196:87
 owner-requires : tie.Need-owner-requires
 owner-requires c κs = search needs
 
--- src/lib.rt:196:100
 owner-requires-2 : tie.Need-owner-requires-2
 owner-requires-2 c κs = search needs
 
--- src/lib.rt:196:59
 freed-requires : tie.Need-freed-requires
 freed-requires c κs = search needs
 
--- src/lib.rt:189:1
 same-length : tie.Need-same-length
 same-length c = search needs
 
--- src/lib.rt:189:1
 returns : tie.Need-returns
 returns c =
-    let a = (c .before .before .before .before .before .before .before .before .before .before .before .before .args) in
-    let changed = (c .freed .ensures) in
-    λ p payload g. ap (repliedWith answer.Acked (a .consumed) (c .freed .result) p) ((c .before .before .before .before .before .before .put-empty .ensures) ∙ ap (λ (f : From). sentOf (replyBytes (f .version) (f .service) 0x05 (f .session .0) (getD (a .link .rows) (a .i) noRow .next) []) (a .out .now)) (c .before .before .before .before .before .before .before .before .from .ensures))
-    ∙ ap (λ (l : Link). repliedWith answer.Acked (a .consumed) l p (sentOf (replyBytes (replyVersion (a .link .version .major) (getD (a .link .rows) (a .i) noRow)) (a .header .service) 0x05 (getD (a .link .rows) (a .i) noRow .id .0) (getD (a .link .rows) (a .i) noRow .next) []) (a .out .now)))
-    (changed ∙ rw ((c .before .before .owner .ensures), (c .before .owner2 .ensures), (c .before .before .before .free .ensures)))
+    let a = (c .before .before .before .before .before .before .before .before .before .before .before .args) in
+    let closing : (c .before .before .before .before .before .before .before .before .before .row-at .result) ≡ getD (a .link .rows) (a .i) noRow = (c .before .before .before .before .before .before .before .before .before .row-at .ensures) in
+    λ p payload g. ended (a .link) (a .i) (a .header) (a .consumed) _ (c .before .before .before .before .before .before .before .before .from .result) (c .freed .result) _ _ (a .out .now) _ p (c .before .before .before .before .before .before .before .before .from .ensures) ((c .freed .ensures) ∙ rw ((c .before .before .owner .ensures), (c .before .owner2 .ensures), (c .before .before .before .free .ensures))) (c .before .before .before .before .before .before .put-empty .ensures) (ap (λ (r : Row). r .next) closing)
 
 pub close-spec : {M : Type 1} → statement M
-close-spec =
-    tie.close
-    (tie.spec
-    mul-row
-    array-copy-out-row
-    from-requires
-    put-empty-requires
-    free-requires
-    owner-requires
-    owner-requires-2
-    freed-requires
-    same-length
-    returns)
+close-spec = tie.close (tie.spec row-at-requires from-requires put-empty-requires free-requires owner-requires owner-requires-2 freed-requires same-length returns)

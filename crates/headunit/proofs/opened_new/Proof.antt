@@ -1,15 +1,8 @@
 -- `headunit::opened_new` meets its contract.
 -- Assumes nothing.
-use mathlib.Core.Path.{_∙_, ap, refl}
-use Prim.Native.Nat.{ℕ, _-_}
+use mathlib.Core.Path.{_≡_}
 use Rattle.payload.specs.Version.{lesserOf}
-use Rattle.payload.specs.declared.version.Version.{Version}
-use Rattle.link.specs.declared.Link.{Link}
-use Rattle.link.specs.declared.Answer.the-variants as answer
-use Rattle.link.specs.State.{lowestFree}
-use Rattle.link.specs.Reply.{newAck}
-use Rattle.headunit.specs.Unit.{sentOf, repliedWith}
-use Rattle.headunit.proofs.Laws.{opened-link}
+use Rattle.headunit.proofs.Laws.{new-opened}
 use borrow.Author.Needs.{needs}
 use Rattle.headunit.proofs.opened_new.Statement.{statement}
 use Rattle.headunit.proofs.opened_new.Tie as tie
@@ -49,10 +42,8 @@ same-length c = search needs
 returns : tie.Need-returns
 returns c =
     let a = (c .before .before .before .before .before .before .before .before .before .before .before .args) in
-    λ p. ap (repliedWith answer.Acked (a .consumed) (c .with-row .result) p) ((c .before .before .before .put-opened .ensures) ∙ ap (λ (v : Version). sentOf (newAck ((c .before .before .before .before .before .before .before .before .lowest-free .result) .0) (a .grant .hash) (a .link .mtu) v) (a .out .now)) (c .before .before .before .before .before .lesser .ensures)
-    ∙ ap (λ (k : ℕ). sentOf (newAck k (a .grant .hash) (a .link .mtu) (lesserOf (a .link .version) (a .wish))) (a .out .now)) (c .before .before .before .before .before .before .before .before .lowest-free .ensures))
-    ∙ ap (λ (l : Link). repliedWith answer.Acked (a .consumed) l p (sentOf (newAck (lowestFree 255 1 (a .link .rows)) (a .grant .hash) (a .link .mtu) (lesserOf (a .link .version) (a .wish))) (a .out .now)))
-    (opened-link (a .link) (a .i) (c .before .before .before .before .before .before .before .before .lowest-free .result) _ _ (a .grant) 5 5 (c .before .before .before .before .before .before .before .before .before .before .before .pre .1 .0) (c .before .before .before .before .before .before .before .before .lowest-free .ensures) refl (c .before .before .before .before .before .before .before .opened .ensures) (c .with-row .ensures))
+    let settled : (c .before .before .before .before .before .lesser .result) ≡ lesserOf (a .link .version) (a .wish) = (c .before .before .before .before .before .lesser .ensures) in
+    λ p. new-opened (a .link) (a .i) (a .consumed) (a .grant) (a .wish) (c .before .before .before .before .before .lesser .result) (c .before .before .before .before .before .before .before .before .lowest-free .result) (c .before .before .before .before .before .before .before .opened .result) (c .with-row .result) _ (a .out .now) _ p (c .before .before .before .before .before .before .before .before .before .before .before .pre .1 .0) (c .before .before .before .before .before .before .before .before .lowest-free .ensures) settled (c .before .before .before .before .before .before .before .opened .ensures) (c .with-row .ensures) (c .before .before .before .put-opened .ensures)
 
 pub opened-new-spec : {M : Type 1} → statement M
 opened-new-spec =

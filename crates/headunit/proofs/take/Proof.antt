@@ -4,10 +4,10 @@ use mathlib.Core.Path.{_∙_, ap, sym}
 use Prim.Native.Nat.{_-_}
 use native.Mathlib.Omega.{arith}
 use lib.ListN.{length}
-use borrow.Author.Tests.{eq-eqb, ne-eqb, lt-ltb, le-ltb, lt-leb, le-leb}
+use borrow.Author.Tests.{eq-eqb, ne-eqb, le-ltb, lt-leb, le-leb}
 use Rattle.frame.proofs.ThereAndBack.{payload-length}
 use Rattle.link.specs.Call.{frameOf}
-use Rattle.headunit.proofs.Laws.{guard-major, serves}
+use Rattle.headunit.proofs.Laws.{guard-major, serves, frame-opens, frame-within}
 use borrow.Author.Needs.{needs}
 use Rattle.headunit.proofs.take.Statement.{statement}
 use Rattle.headunit.proofs.take.Tie as tie
@@ -46,10 +46,9 @@ same-length c = search needs
 
 -- src/lib.rt:526:9
 returns-2 : tie.Need-returns-2
-unfolding frameOf
 returns-2 c =
     let a = (c .before .before .before .before .before .before .before .before .before .before .before .args) in
-    (c .before .before .«open» .ensures) (a .pool .now) ∙ rw (le-leb 128 (length (a .out .now)) (omega (arith, (c .before .before .before .before .before .before .before .if1 .left))), sym (c .before .before .before .before .before .is-opening .ensures) ∙ (c .before .before .before .before .if2 .taken), (c .before .before .before .before .before .before .payload .ensures))
+    frame-opens (a .link) (a .pool .now) (a .input .now) (a .out .now) (a .header) (a .extent) (a .grant) _ (omega (arith, (c .before .before .before .before .before .before .before .if1 .left))) (c .before .before .before .before .before .before .payload .ensures) (sym (c .before .before .before .before .before .is-opening .ensures) ∙ (c .before .before .before .before .if2 .taken)) ((c .before .before .«open» .ensures) (a .pool .now))
 
 -- src/lib.rt:529:9
 returns-3 : tie.Need-returns-3
@@ -79,11 +78,9 @@ same-length-3 c = search needs
 
 -- src/lib.rt:534:9
 returns-4 : tie.Need-returns-4
-unfolding frameOf
 returns-4 c =
     let a = (c .before .before .before .before .before .before .before .before .before .before .before .before .before .before .before .before .before .before .before .args) in
-    let eight = (c .before .before .before .before .before .before .before .before .row-of .ensures .1) in
-    (c .before .before .before .before .within .ensures) ∙ rw (le-leb 128 (length (a .out .now)) (omega (arith, (c .before .before .before .before .before .before .before .before .before .before .before .before .before .before .before .if1 .left))), sym (c .before .before .before .before .before .before .before .before .before .before .before .before .before .is-opening .ensures) ∙ (c .before .before .before .before .before .before .before .before .before .before .before .before .if2 .left), ne-eqb _ _ (c .before .before .before .before .before .before .before .before .before .before .if3 .left), ← (c .before .before .before .before .before .before .before .before .row-of .ensures .0), eight, lt-ltb (c .before .before .before .before .before .before .before .before .row-of .result) 8 (omega (arith, (c .before .before .before .before .before .before .before .if4 .taken))), (c .before .before .before .before .before .before .before .before .before .before .before .before .before .before .payload .ensures))
+    frame-within (a .link) (a .pool .now) (a .input .now) (a .out .now) (a .header) (a .extent) (a .grant) _ (omega (arith, (c .before .before .before .before .before .before .before .before .before .before .before .before .before .before .before .if1 .left))) (c .before .before .before .before .before .before .before .before .before .before .before .before .before .before .payload .ensures) (c .before .before .before .before .before .before .before .before .row-of .result) (sym (c .before .before .before .before .before .before .before .before .before .before .before .before .before .is-opening .ensures) ∙ (c .before .before .before .before .before .before .before .before .before .before .before .before .if2 .left)) (c .before .before .before .before .before .before .before .before .before .before .if3 .left) (c .before .before .before .before .before .before .before .before .row-of .ensures .0) (c .before .before .before .before .before .before .before .before .row-of .ensures .1) (omega (arith, (c .before .before .before .before .before .before .before .if4 .taken))) (c .before .before .before .before .within .ensures)
 
 -- src/lib.rt:517:1
 returns-5 : tie.Need-returns-5

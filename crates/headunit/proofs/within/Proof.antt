@@ -1,12 +1,12 @@
 -- `headunit::within` meets its contract.
 -- Assumes nothing.
-use mathlib.Core.Path.{_∙_, sym, subst}
+use mathlib.Core.Path.{sym, subst}
 use Prim.Native.Nat.{_-_}
 use lib.ListN.{length, getD}
 use Rattle.session.specs.Rows.{noRow, messageAt}
 use Rattle.session.specs.Decide.{placeOf}
 use Rattle.headunit.specs.Unit.{Roomy}
-use Rattle.headunit.proofs.Laws.{decision-roomy}
+use Rattle.headunit.proofs.Laws.{applied-by, decision-roomy}
 use borrow.Author.Needs.{needs}
 use Rattle.headunit.proofs.within.Statement.{statement}
 use Rattle.headunit.proofs.within.Tie as tie
@@ -35,7 +35,9 @@ same-length-2 c = search needs
 
 -- src/lib.rt:501:1
 returns : tie.Need-returns
-returns c = (c .before .before .before .before .apply .ensures) ∙ rw (c .before .before .before .before .before .before .before .decide .ensures)
+returns c =
+    let a = (c .before .before .before .before .before .before .before .before .before .before .before .args) in
+    applied-by (a .link) (a .i) (a .pool .now) (a .out .now) (a .header) (a .consumed) (a .payload .now) (a .grant) _ _ (sym (c .before .before .before .before .before .before .before .decide .ensures)) (c .before .before .before .before .apply .ensures)
 
 pub within-spec : {M : Type 1} → statement M
 within-spec = tie.close (tie.spec decide-requires apply-requires same-length same-length-2 returns)
