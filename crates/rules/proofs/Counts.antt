@@ -1,81 +1,29 @@
--- The counts of the owners' blocks: what one turn of each loop over them does, and when counts of some owners are the counts of all.
--- Assumes nothing.
-use Prim.Native.Nat.{ℕ, zero, suc, _+_, _-_, _<_, _≤_}
-use mathlib.Core.Path.{_≡_, refl, ap, subst, sym, _∙_}
-use mathlib.Core.Logic.{_≢_}
+-- The blocks of all owners: if each open message holds what it needs, and these blocks and the free ones are the whole map, no other owner has
+-- any. So the one pass of the code over the rows and the definition's rules say the same. Assumes nothing.
+use Prim.Native.Nat.{ℕ, zero, suc, _+_, _*_, _<_, _≤_}
+use mathlib.Core.Path.{_≡_, refl, sym, _∙_}
+use mathlib.Core.Bool.{Bool, true, false, _&&_, _||_, not}
 use mathlib.Core.List.{List, [], _∷_}
-use native.Mathlib.Numerals.{add-one}
 use native.Mathlib.Omega.{arith}
-use lib.Dec.{eqb}
-use lib.ListN.{length, getD, set, drop, replicate, drop-of-length-le}
-use lib.Seq.{drop-cons, getD-set-same, getD-set-other}
-use borrow.Author.Tests.{eq-eqb, ne-eqb}
+use lib.Dec.{eqb, leb}
+use lib.ListN.{length}
+use borrow.Author.Tests.{eqb-true, eq-eqb, leb-true, le-leb}
 use Rattle.numbers.specs.Bytes.{pick}
 use Rattle.blocks.specs.Map.{heldBy, heldByAll, freeIn}
-use Rattle.blocks.proofs.Counts.{held-most, held-mine, held-not}
+use Rattle.blocks.proofs.Counts.{held-mine, held-not}
+use Rattle.session.specs.declared.Reassembly.{Reassembly}
+use Rattle.session.specs.declared.Row.{Row}
+use Rattle.session.specs.Decide.{needOf, heldBy as heldFor, heldIn, heldOf, shareOf}
+use Rattle.link.specs.Pages.{FiveEach}
+use Rattle.link.specs.declared.Link.{Link}
+use Rattle.link.specs.State.{allFrom, ownerOf, sharesIn, freeFits, blocksFit, rowFits, rulesHold}
 use Rattle.link.proofs.Table.{either}
-use Rattle.rules.specs.Parts.{AtMost, Counted, sumOf}
+use Rattle.link.proofs.RowRules.{both, and-yes}
+use Rattle.link.proofs.TableRules.{heldsIn, forty}
+use Rattle.rules.specs.Parts.{noneLive, sessionFits, idsOf, distinctIn, holdsNeed, openFit, rowSound, ofSession, heldSum, shareSum}
+use Rattle.rules.proofs.Turns.{distinct-ids}
 
--- one entry of the map more
-held-at : (k : ℕ) (map : List ℕ) (i : ℕ) → i < length map → heldBy k (drop i map) ≡ pick (eqb (getD map i 0) k) 1 0 + heldBy k (drop (i + 1) map)
-unfolding heldBy
-held-at k map i h = rw (add-one i, drop-cons map i 0)
-
-held-same : (k : ℕ) (map : List ℕ) (i : ℕ) → i < length map → getD map i 0 ≡ k → heldBy k (drop i map) ≡ suc (heldBy k (drop (i + 1) map))
-held-same k map i h e = let w : _≡_ {A = ℕ} (pick (eqb (getD map i 0) k) 1 0) 1 = rw (eq-eqb (getD map i 0) k e) in omega (arith, held-at k map i h)
-
-held-other : (k : ℕ) (map : List ℕ) (i : ℕ) → i < length map → getD map i 0 ≢ k → heldBy k (drop i map) ≡ heldBy k (drop (i + 1) map)
-held-other k map i h n = let w : _≡_ {A = ℕ} (pick (eqb (getD map i 0) k) 1 0) 0 = rw (ne-eqb (getD map i 0) k n) in omega (arith, held-at k map i h)
-
--- the counts below n of the entries passed, and what the entries from i on hold, are the whole
-abbrev pub Counting : ℕ → List ℕ → List ℕ → ℕ → Type 0
-Counting n map counts i = (k : ℕ) → k < n → getD counts k 0 + heldBy k (drop i map) ≡ heldBy k map
-
-module _ (n : ℕ) (map counts : List ℕ) (i o : ℕ) (inside : i < length map) (entry : o ≡ getD map i 0) where
-  -- the entry is counted
-  pub counted : o < length counts → Counting n map counts i → Counting n map (set counts o (getD counts o 0 + 1)) (i + 1)
-  counted h f k g =
-      either k o
-      (λ e.
-      let same : getD (set counts o (getD counts o 0 + 1)) k 0 ≡ getD counts k 0 + 1 = rw e (getD-set-same counts o (getD counts o 0 + 1) 0 h) in
-      omega (arith, f k g, held-same k map i inside (sym entry ∙ sym e)))
-      (λ d.
-      let same : getD (set counts o (getD counts o 0 + 1)) k 0 ≡ getD counts k 0 = getD-set-other counts o k (getD counts o 0 + 1) 0 d in
-      omega (arith, f k g, held-other k map i inside (λ e. d (sym e ∙ sym entry))))
-
-  -- it is no owner that is counted
-  pub passed : n ≤ o → Counting n map counts i → Counting n map counts (i + 1)
-  passed h f k g = omega (arith, f k g, held-other k map i inside (λ e. omega arith))
-
-getD-zeros : (n k : ℕ) → getD {A = ℕ} (replicate n 0) k 0 ≡ 0
-getD-zeros zero k = refl
-getD-zeros (suc n) zero = refl
-getD-zeros (suc n) (suc k) = getD-zeros n k
-
--- nothing is counted yet
-pub counting-none : (n : ℕ) (map : List ℕ) → Counting n map (replicate n 0) 0
-counting-none n map k h = omega (arith, getD-zeros n k)
-
--- everything is counted
-pub counting-all : (n : ℕ) (map counts : List ℕ) (i : ℕ) → length map ≤ i → Counting n map counts i → (k : ℕ) → k < n → getD counts k 0 ≡ heldBy k map
-unfolding heldBy
-counting-all n map counts i h f k g =
-    let none : heldBy k (drop i map) ≡ 0 = rw (drop-of-length-le map {i = i} h) in
-    omega (arith, f k g)
-
--- no count is larger than the map
-pub counting-most : (n : ℕ) (map counts : List ℕ) (i k : ℕ) → k < n → Counting n map counts i → getD counts k 0 ≤ length map
-counting-most n map counts i k h f = omega (arith, f k h, held-most k map)
-
--- ---- the sum of counts
-
-pub sum-at : (l : List ℕ) (k : ℕ) → k < length l → sumOf (drop k l) ≡ getD l k 0 + sumOf (drop (k + 1) l)
-unfolding sumOf
-sum-at l k h = rw (add-one k, drop-cons l k 0)
-
-pub sum-end : (l : List ℕ) (k : ℕ) → length l ≤ k → sumOf (drop k l) ≡ 0
-unfolding sumOf
-sum-end l k h = rw (drop-of-length-le l {i = k} h)
+-- ---- owners have no more blocks than there are
 
 -- an entry of the map counts for one owner at most: for none of those above it
 all-above : (first n o : ℕ) (map : List ℕ) → o < first → heldByAll first n (o ∷ map) ≡ heldByAll first n map
@@ -96,73 +44,232 @@ unfolding heldByAll heldBy
 all-empty first zero = refl
 all-empty first (suc n) = omega (arith, all-empty (suc first) n)
 
--- so owners have no more blocks than there are
 all-most : (first n : ℕ) (map : List ℕ) → heldByAll first n map ≤ length map
 all-most first n [] = omega (arith, all-empty first n)
 all-most first n (o ∷ map) = omega (arith, all-once first n o map, all-most first n map)
 
+with-free : (map : List ℕ) → heldByAll 1 40 map + freeIn map ≤ length map
+unfolding heldByAll
+with-free map = omega (arith, all-most 0 41 map)
+
+-- ---- one message: whether it is open, what its owner has, what it needs
+
+-- a test of two numbers that were found is the test of what they are
+pub tested : (held owned need needed : ℕ) (said : Bool) → held ≡ owned → need ≡ needed → said ≡ eqb held need → said ≡ eqb owned needed
+tested held owned need needed said e f same = rw (← e, ← f) same
+
+most-of : (live : Bool) (held need : ℕ) → not live || eqb held need ≡ true → pick live need 0 ≤ held
+most-of true held need e = omega (arith, eqb-true held need e)
+most-of false held need e = omega arith
+
+exact-of : (live : Bool) (held need : ℕ) → not live || eqb held need ≡ true → held ≤ pick live need 0 → eqb held (pick live need 0) ≡ true
+exact-of true held need e h = e
+exact-of false held need e h = eq-eqb held 0 (omega arith)
+
+open-of : (live : Bool) (held need : ℕ) → eqb held (pick live need 0) ≡ true → not live || eqb held need ≡ true
+open-of true held need e = e
+open-of false held need e = refl
+
+idle-of : (live : Bool) (held need : ℕ) → not live ≡ true → (not live || eqb held need ≡ true) × (pick live need 0 ≡ 0)
+idle-of true held need e = (cc, cc)
+idle-of false held need e = (refl, refl)
+
+by-pick : {X : Type 0} (t a b : Bool) → pick t a b ≡ true → (t ≡ true → a ≡ true → X) → (t ≡ false → b ≡ true → X) → X
+by-pick true a b e f g = f refl e
+by-pick false a b e f g = g refl e
+
+idle-held : (ms : List Reassembly) → noneLive ms ≡ true → heldIn ms ≡ 0
+unfolding heldIn heldFor
+idle-held [] e = refl
+idle-held (m ∷ ms) e =
+    let p = both (not (m .live)) (noneLive ms) e in
+    omega (arith, idle-of (m .live) 0 (needOf (m .total)) (p .0) .1, idle-held ms (p .1))
+
+-- a free row takes nothing
+free-none : (r : Row) → freeFits r ≡ true → (noneLive (r .messages) ≡ true) × (r .guarantee ≡ 0)
+unfolding freeFits
+free-none r e =
+    let p = both (eqb (r .guarantee) 0) (eqb (r .cap) 0 && noneLive (r .messages)) e in
+    (both (eqb (r .cap) 0) (noneLive (r .messages)) (p .1) .1, eqb-true (r .guarantee) 0 (p .0))
+
+next-owner : (i n : ℕ) → ownerOf i (suc n) ≡ suc (ownerOf i n)
+unfolding ownerOf
+next-owner i n = omega arith
+
+next-row : (n : ℕ) → ownerOf (suc n) 0 ≡ suc (suc (suc (suc (suc (ownerOf n 0)))))
+unfolding ownerOf
+next-row n = omega arith
+
+first-owner : ownerOf 0 0 ≡ 1
+unfolding ownerOf
+first-owner = refl
+
 module _ (map : List ℕ) where
-  -- the counts of the owners from k on
-  abbrev Each : (ℕ → ℕ → Type 0) → ℕ → List ℕ → Type 0
-  Each R k l = (j : ℕ) → j < length l → R (getD l j 0) (heldBy (k + j) map)
+  -- ---- a row's messages from a place on
 
-  first-of : (R : ℕ → ℕ → Type 0) (k c : ℕ) (l : List ℕ) → Each R k (c ∷ l) → R c (heldBy k map)
-  first-of R k c l f = let z : k + 0 ≡ k = omega arith in subst (λ (n : ℕ). R c (heldBy n map)) z (f 0 (omega arith))
+  abbrev Open : ℕ → ℕ → List Reassembly → Bool
+  Open i n ms = allFrom n (λ (place : ℕ) (m : Reassembly). holdsNeed map (ownerOf i place) m) ms
 
-  rest-of : (R : ℕ → ℕ → Type 0) (k c : ℕ) (l : List ℕ) → Each R k (c ∷ l) → Each R (suc k) l
-  rest-of R k c l f j h = let z : k + suc j ≡ suc k + j = omega arith in subst (λ (n : ℕ). R (getD l j 0) (heldBy n map)) z (f (suc j) (omega arith))
+  abbrev Exact : ℕ → ℕ → List Reassembly → Bool
+  Exact i n ms = allFrom n (λ (place : ℕ) (m : Reassembly). eqb (heldBy (ownerOf i place) map) (pick (m .live) (needOf (m .total)) 0)) ms
 
-  same-sum : (k : ℕ) (l : List ℕ) → Each (λ a b. a ≡ b) k l → sumOf l ≡ heldByAll k (length l) map
-  unfolding sumOf heldByAll
-  same-sum k [] f = refl
-  same-sum k (c ∷ l) f = omega (arith, first-of (λ a b. a ≡ b) k c l f, same-sum (suc k) l (rest-of (λ a b. a ≡ b) k c l f))
+  idle-open : (i n : ℕ) (ms : List Reassembly) → noneLive ms ≡ true → Open i n ms ≡ true
+  unfolding holdsNeed
+  idle-open i n [] e = refl
+  idle-open i n (m ∷ ms) e =
+      let p = both (not (m .live)) (noneLive ms) e in
+      and-yes _ _ (idle-of (m .live) (heldBy (ownerOf i n) map) (needOf (m .total)) (p .0) .0) (idle-open i (suc n) ms (p .1))
 
-  less-sum : (k : ℕ) (l : List ℕ) → Each (λ a b. a ≤ b) k l → sumOf l ≤ heldByAll k (length l) map
-  unfolding sumOf heldByAll
-  less-sum k [] f = omega arith
-  less-sum k (c ∷ l) f = omega (arith, first-of (λ a b. a ≤ b) k c l f, less-sum (suc k) l (rest-of (λ a b. a ≤ b) k c l f))
+  exact-open : (i n : ℕ) (ms : List Reassembly) → Exact i n ms ≡ true → Open i n ms ≡ true
+  unfolding holdsNeed
+  exact-open i n [] e = refl
+  exact-open i n (m ∷ ms) e =
+      let p = both (eqb (heldBy (ownerOf i n) map) (pick (m .live) (needOf (m .total)) 0)) (Exact i (suc n) ms) e in
+      and-yes _ _ (open-of (m .live) (heldBy (ownerOf i n) map) (needOf (m .total)) (p .0)) (exact-open i (suc n) ms (p .1))
 
-  -- counts of which none is too large, and whose sum is not too small
-  exact : (k : ℕ) (l : List ℕ) → Each (λ a b. a ≤ b) k l → heldByAll k (length l) map ≤ sumOf l → Each (λ a b. a ≡ b) k l
-  unfolding sumOf heldByAll
-  exact k [] f h j g = absurd (omega arith)
-  exact k (c ∷ l) f h zero g =
-      let z : k ≡ k + 0 = omega arith in
-      let here : c ≡ heldBy k map = omega (arith, first-of (λ a b. a ≤ b) k c l f, less-sum (suc k) l (rest-of (λ a b. a ≤ b) k c l f)) in
-      subst (λ (n : ℕ). c ≡ heldBy n map) z here
-  exact k (c ∷ l) f h (suc j) g =
-      let z : suc k + j ≡ k + suc j = omega arith in
-      let left : heldByAll (suc k) (length l) map ≤ sumOf l = omega (arith, first-of (λ a b. a ≤ b) k c l f) in
-      subst (λ (n : ℕ). getD l j 0 ≡ heldBy n map) z (exact (suc k) l (rest-of (λ a b. a ≤ b) k c l f) left j (omega arith))
+  -- their owners have at least what the open ones need
+  less : (i n : ℕ) (ms : List Reassembly) → Open i n ms ≡ true → heldIn ms ≤ heldByAll (ownerOf i n) (length ms) map
+  unfolding heldIn heldFor heldByAll holdsNeed
+  less i n [] e = omega arith
+  less i n (m ∷ ms) e =
+      let p = both (holdsNeed map (ownerOf i n) m) (Open i (suc n) ms) e in
+      let here : pick (m .live) (needOf (m .total)) 0 ≤ heldBy (ownerOf i n) map = most-of (m .live) (heldBy (ownerOf i n) map) (needOf (m .total)) (p .0) in
+      let rest : heldIn ms ≤ heldByAll (suc (ownerOf i n)) (length ms) map = rw (next-owner i n) at (less i (suc n) ms (p .1)) in
+      omega arith
 
-  from-0 : (R : ℕ → ℕ → Type 0) (l : List ℕ) → ((j : ℕ) → j < length l → R (getD l j 0) (heldBy j map)) → Each R 0 l
-  from-0 R l f j h = let z : j ≡ 0 + j = omega arith in subst (λ (n : ℕ). R (getD l j 0) (heldBy n map)) z (f j h)
+  -- and if they have no more, each has exactly that
+  exact : (i n : ℕ) (ms : List Reassembly) → Open i n ms ≡ true → heldByAll (ownerOf i n) (length ms) map ≤ heldIn ms → Exact i n ms ≡ true
+  unfolding heldIn heldFor heldByAll holdsNeed
+  exact i n [] e h = refl
+  exact i n (m ∷ ms) e h =
+      let p = both (holdsNeed map (ownerOf i n) m) (Open i (suc n) ms) e in
+      let here : pick (m .live) (needOf (m .total)) 0 ≤ heldBy (ownerOf i n) map = most-of (m .live) (heldBy (ownerOf i n) map) (needOf (m .total)) (p .0) in
+      let rest : heldIn ms ≤ heldByAll (suc (ownerOf i n)) (length ms) map = rw (next-owner i n) at (less i (suc n) ms (p .1)) in
+      let left : heldByAll (ownerOf i (suc n)) (length ms) map ≤ heldIn ms = rw (next-owner i n) (omega arith) in
+      and-yes _ _ (exact-of (m .live) (heldBy (ownerOf i n) map) (needOf (m .total)) (p .0) (omega arith)) (exact i (suc n) ms (p .1) left)
 
-  module _ (counts : List ℕ) (size : length counts ≡ 41) where
-    -- all blocks that are free or have an owner
-    pub counts-sum : Counted counts map → sumOf counts ≡ heldByAll 1 40 map + freeIn map
+  module _ (major : ℕ) where
+    -- ---- one row
+
+    sound-open : (n : ℕ) (r : Row) → rowSound major map n r ≡ true → openFit map n (r .messages) ≡ true
+    unfolding rowSound
+    sound-open n r e =
+        by-pick (eqb (r .id .0) 0) (freeFits r) (openFit map n (r .messages) && sessionFits major r) e
+        (λ t f. idle-open n 0 (r .messages) (free-none r f .0))
+        (λ t f. both (openFit map n (r .messages)) (sessionFits major r) f .0)
+
+    sound-sums : (n : ℕ) (r : Row) → rowSound major map n r ≡ true → (ofSession heldOf r ≡ heldOf r) × (ofSession shareOf r ≡ shareOf r)
+    unfolding rowSound ofSession
+    sound-sums n r e =
+        by-pick (eqb (r .id .0) 0) (freeFits r) (openFit map n (r .messages) && sessionFits major r) e
+        (λ t f.
+        let none : heldOf r ≡ 0 = idle-held (r .messages) (free-none r f .0) in
+        let spare : r .guarantee ≡ 0 = free-none r f .1 in
+        (rw t (sym none), rw t (omega arith)))
+        (λ t f. (rw t, rw t))
+
+    fits-sound : (n : ℕ) (r : Row) → rowFits major map n r ≡ true → rowSound major map n r ≡ true
+    unfolding rowFits blocksFit rowSound
+    fits-sound n r e =
+        let p = both (Exact n 0 (r .messages)) (pick (eqb (r .id .0) 0) (freeFits r) (sessionFits major r)) e in
+        by-pick (eqb (r .id .0) 0) (freeFits r) (sessionFits major r) (p .1)
+        (λ t f. rw t f)
+        (λ t f. rw t (and-yes _ _ (exact-open n 0 (r .messages) (p .0)) f))
+
+    sound-fits : (n : ℕ) (r : Row) → length (r .messages) ≡ 5 → rowSound major map n r ≡ true → heldByAll (ownerOf n 0) 5 map ≤ heldOf r → rowFits major map n r ≡ true
+    unfolding rowFits blocksFit rowSound
+    sound-fits n r five e h =
+        let blocks : Exact n 0 (r .messages) ≡ true = exact n 0 (r .messages) (sound-open n r e) (rw five h) in
+        by-pick (eqb (r .id .0) 0) (freeFits r) (openFit map n (r .messages) && sessionFits major r) e
+        (λ t f. and-yes _ _ blocks (rw t f))
+        (λ t f. and-yes _ _ blocks (rw t (both (openFit map n (r .messages)) (sessionFits major r) f .1)))
+
+    row-less : (n : ℕ) (r : Row) → length (r .messages) ≡ 5 → rowSound major map n r ≡ true → heldOf r ≤ heldByAll (ownerOf n 0) 5 map
+    row-less n r five e = rw five at (less n 0 (r .messages) (sound-open n r e))
+
+    -- ---- all rows
+
+    row-split : (n k : ℕ) → heldByAll (ownerOf n 0) (5 * suc k) map ≡ heldByAll (ownerOf n 0) 5 map + heldByAll (ownerOf (suc n) 0) (5 * k) map
     unfolding heldByAll
-    counts-sum f =
-        let all : sumOf counts ≡ heldByAll 0 (length counts) map = same-sum 0 counts (from-0 (λ a b. a ≡ b) counts (λ j h. f j (omega arith))) in
-        omega (arith, rw size at all)
+    row-split n k =
+        let z : 5 * suc k ≡ suc (suc (suc (suc (suc (5 * k))))) = omega arith in
+        rw (z, next-row n) (omega arith)
 
-    -- if the counts are the whole map, no owner has more
-    pub counts-exact : AtMost counts map → sumOf counts ≡ length map → Counted counts map
-    counts-exact f e k h =
-        let z : 0 + k ≡ k = omega arith in
-        subst (λ (n : ℕ). getD counts k 0 ≡ heldBy n map) z
-        (exact 0 counts (from-0 (λ a b. a ≤ b) counts (λ j g. f j (omega arith))) (omega (arith, all-most 0 (length counts) map)) k (omega arith))
+    all-sound : (n : ℕ) (rs : List Row) → allFrom n (rowFits major map) rs ≡ true → allFrom n (rowSound major map) rs ≡ true
+    all-sound n [] e = refl
+    all-sound n (r ∷ rs) e =
+        let p = both (rowFits major map n r) (allFrom (suc n) (rowFits major map) rs) e in
+        and-yes _ _ (fits-sound n r (p .0)) (all-sound (suc n) rs (p .1))
 
--- ---- one count stored
+    all-sums : (n : ℕ) (rs : List Row) → allFrom n (rowSound major map) rs ≡ true → (heldSum rs ≡ heldsIn rs) × (shareSum rs ≡ sharesIn rs)
+    unfolding heldSum heldsIn shareSum sharesIn
+    all-sums n [] e = (refl, refl)
+    all-sums n (r ∷ rs) e =
+        let p = both (rowSound major map n r) (allFrom (suc n) (rowSound major map) rs) e in
+        let here = sound-sums n r (p .0) in
+        let rest = all-sums (suc n) rs (p .1) in
+        (rw (here .0, rest .0), rw (here .1, rest .1))
 
-pub most-none : (n : ℕ) (map : List ℕ) → AtMost (replicate n 0) map
-most-none n map k h = omega (arith, getD-zeros n k)
+    all-less : (n : ℕ) (rs : List Row) → FiveEach rs → allFrom n (rowSound major map) rs ≡ true → heldsIn rs ≤ heldByAll (ownerOf n 0) (5 * length rs) map
+    unfolding heldsIn
+    all-less n [] five e = omega arith
+    all-less n (r ∷ rs) five e =
+        let p = both (rowSound major map n r) (allFrom (suc n) (rowSound major map) rs) e in
+        omega (arith, row-split n (length rs), row-less n r (five .0) (p .0), all-less (suc n) rs (five .1) (p .1))
 
-pub most-set : (counts map : List ℕ) (o v : ℕ) → o < length counts → v ≤ heldBy o map → AtMost counts map → AtMost (set counts o v) map
-most-set counts map o v h e f k g =
-    either k o
-    (λ w.
-    let same : getD (set counts o v) k 0 ≡ v = rw w (getD-set-same counts o v 0 h) in
-    let held : heldBy k map ≡ heldBy o map = ap (λ (n : ℕ). heldBy n map) w in
-    omega arith)
-    (λ w. let same : getD (set counts o v) k 0 ≡ getD counts k 0 = getD-set-other counts o k v 0 w in omega (arith, f k g))
+    all-fit : (n : ℕ) (rs : List Row) → FiveEach rs → allFrom n (rowSound major map) rs ≡ true → heldByAll (ownerOf n 0) (5 * length rs) map ≤ heldsIn rs
+        → allFrom n (rowFits major map) rs ≡ true
+    unfolding heldsIn
+    all-fit n [] five e h = refl
+    all-fit n (r ∷ rs) five e h =
+        let p = both (rowSound major map n r) (allFrom (suc n) (rowSound major map) rs) e in
+        let s = row-split n (length rs) in
+        let here = row-less n r (five .0) (p .0) in
+        let rest = all-less (suc n) rs (five .1) (p .1) in
+        and-yes _ _ (sound-fits n r (five .0) (p .0) (omega arith)) (all-fit (suc n) rs (five .1) (p .1) (omega arith))
+
+    module _ (rs : List Row) (whole : length map ≡ 256) (eight : length rs ≡ 8) (five : FiveEach rs) where
+      forty-owners : heldByAll (ownerOf 0 0) (5 * length rs) map ≡ heldByAll 1 40 map
+      forty-owners = let z : 5 * length rs ≡ 40 = omega arith in rw (first-owner, z)
+
+      to-rules : allFrom 0 (rowSound major map) rs && (leb (shareSum rs) 256 && eqb (heldSum rs + freeIn map) 256) ≡ true
+          → allFrom 0 (rowFits major map) rs && (leb (sharesIn rs) 256 && eqb (heldByAll 1 40 map + freeIn map) 256) ≡ true
+      to-rules e =
+          let p = both (allFrom 0 (rowSound major map) rs) (leb (shareSum rs) 256 && eqb (heldSum rs + freeIn map) 256) e in
+          let q = both (leb (shareSum rs) 256) (eqb (heldSum rs + freeIn map) 256) (p .1) in
+          let s = all-sums 0 rs (p .0) in
+          let sum : heldSum rs + freeIn map ≡ 256 = eqb-true (heldSum rs + freeIn map) 256 (q .1) in
+          let share : shareSum rs ≤ 256 = leb-true (shareSum rs) 256 (q .0) in
+          let fit : allFrom 0 (rowFits major map) rs ≡ true = all-fit 0 rs five (p .0) (omega (arith, forty-owners, with-free map)) in
+          let owned : heldByAll 1 40 map ≡ heldsIn rs = forty major map rs eight five fit in
+          and-yes _ _ fit (and-yes _ _ (le-leb (sharesIn rs) 256 (omega arith)) (eq-eqb (heldByAll 1 40 map + freeIn map) 256 (omega arith)))
+
+      from-rules : allFrom 0 (rowFits major map) rs && (leb (sharesIn rs) 256 && eqb (heldByAll 1 40 map + freeIn map) 256) ≡ true
+          → allFrom 0 (rowSound major map) rs && (leb (shareSum rs) 256 && eqb (heldSum rs + freeIn map) 256) ≡ true
+      from-rules e =
+          let p = both (allFrom 0 (rowFits major map) rs) (leb (sharesIn rs) 256 && eqb (heldByAll 1 40 map + freeIn map) 256) e in
+          let q = both (leb (sharesIn rs) 256) (eqb (heldByAll 1 40 map + freeIn map) 256) (p .1) in
+          let fit : allFrom 0 (rowSound major map) rs ≡ true = all-sound 0 rs (p .0) in
+          let s = all-sums 0 rs fit in
+          let sum : heldByAll 1 40 map + freeIn map ≡ 256 = eqb-true (heldByAll 1 40 map + freeIn map) 256 (q .1) in
+          let share : sharesIn rs ≤ 256 = leb-true (sharesIn rs) 256 (q .0) in
+          let owned : heldByAll 1 40 map ≡ heldsIn rs = forty major map rs eight five (p .0) in
+          and-yes _ _ fit (and-yes _ _ (le-leb (shareSum rs) 256 (omega arith)) (eq-eqb (heldSum rs + freeIn map) 256 (omega arith)))
+
+      -- what the code tests is what the rules say
+      pub rules-same : allFrom 0 (rowSound major map) rs && (leb (shareSum rs) 256 && eqb (heldSum rs + freeIn map) 256)
+          ≡ allFrom 0 (rowFits major map) rs && (leb (sharesIn rs) 256 && eqb (heldByAll 1 40 map + freeIn map) 256)
+      rules-same = same _ _ to-rules from-rules
+        where
+          same : (a b : Bool) → (a ≡ true → b ≡ true) → (b ≡ true → a ≡ true) → a ≡ b
+          same true b f g = sym (f refl)
+          same false true f g = g refl
+          same false false f g = refl
+
+-- the rules of a link, by what was found of it: whether ids are distinct, whether rows fit, their sums and the free blocks
+pub rules-found : (l : Link) (apart fit : Bool) (shared held free : ℕ) (said : Bool) → length (l .owners) ≡ 256 → length (l .rows) ≡ 8 → FiveEach (l .rows)
+    → apart ≡ distinctIn (idsOf (l .rows)) → fit ≡ allFrom 0 (rowSound (l .version .major) (l .owners)) (l .rows) → shared ≡ shareSum (l .rows)
+    → held ≡ heldSum (l .rows) → free ≡ freeIn (l .owners) → said ≡ apart && (fit && (leb shared 256 && eqb (held + free) 256)) → said ≡ rulesHold l
+unfolding rulesHold
+rules-found l apart fit shared held free said whole eight five a b c d e same =
+    same ∙ rw (a, b, c, d, e, distinct-ids (l .rows), rules-same (l .owners) (l .version .major) (l .rows) whole eight five)

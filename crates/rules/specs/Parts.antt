@@ -1,16 +1,14 @@
 -- Names for parts of the link's state rules that have a function of their own here. Assumes nothing.
-use Prim.Native.Nat.{ℕ, _+_, _≤_}
-use mathlib.Core.Path.{_≡_}
-use mathlib.Core.Bool.{Bool, _&&_, not}
+use Prim.Native.Nat.{ℕ, _+_}
+use mathlib.Core.Bool.{Bool, true, _&&_, _||_, not}
 use mathlib.Core.List.{List, [], _∷_}
 use lib.Dec.{eqb}
-use lib.ListN.{getD}
 use Rattle.numbers.specs.Bytes.{pick}
 use Rattle.blocks.specs.Map.{heldBy}
 use Rattle.session.specs.declared.Reassembly.{Reassembly}
 use Rattle.session.specs.declared.Row.{Row}
-use Rattle.session.specs.Decide.{needOf}
-use Rattle.link.specs.State.{all, allFrom, ownerOf, roomFits, versionAllowed, unsettledFits, messageFits}
+use Rattle.session.specs.Decide.{needOf, heldOf, shareOf}
+use Rattle.link.specs.State.{all, allFrom, ownerOf, roomFits, versionAllowed, unsettledFits, messageFits, freeFits}
 
 -- no message is open
 abbrev pub noneLive : List Reassembly → Bool
@@ -20,18 +18,39 @@ noneLive ms = all (λ (m : Reassembly). not (m .live)) ms
 abbrev pub sessionFits : ℕ → Row → Bool
 sessionFits major r = roomFits r && (versionAllowed major (r .version) && (unsettledFits r && allFrom 0 (messageFits r) (r .messages)))
 
--- the count at k is how many of the map's blocks owner k has, for each owner that a row can have and for nobody
-abbrev pub Counted : List ℕ → List ℕ → Type 0
-Counted counts map = (k : ℕ) → k ≤ 40 → getD counts k 0 ≡ heldBy k map
+-- the rows' ids
+abbrev pub idsOf : List Row → List ℕ
+idsOf [] = []
+idsOf (r ∷ rs) = r .id .0 ∷ idsOf rs
 
--- no count is above what its owner has
-abbrev pub AtMost : List ℕ → List ℕ → Type 0
-AtMost counts map = (k : ℕ) → k ≤ 40 → getD counts k 0 ≤ heldBy k map
+-- no id is this one
+abbrev pub missingIn : ℕ → List ℕ → Bool
+missingIn number ids = all (λ (id : ℕ). not (eqb id number)) ids
 
-unfoldable pub sumOf : List ℕ → ℕ
-sumOf [] = 0
-sumOf (c ∷ l) = c + sumOf l
+-- an id other than 0 is not found again
+unfoldable pub distinctIn : List ℕ → Bool
+distinctIn [] = true
+distinctIn (id ∷ ids) = (eqb id 0 || missingIn id ids) && distinctIn ids
 
--- the rule of blocksFit, on a row's messages
-abbrev pub placesFit : List ℕ → ℕ → List Reassembly → Bool
-placesFit map i ms = allFrom 0 (λ (place : ℕ) (m : Reassembly). eqb (heldBy (ownerOf i place) map) (pick (m .live) (needOf (m .total)) 0)) ms
+-- an open message's owner has as many blocks as it needs; of one that is not open nothing is said
+unfoldable pub holdsNeed : List ℕ → ℕ → Reassembly → Bool
+holdsNeed map owner m = not (m .live) || eqb (heldBy owner map) (needOf (m .total))
+
+abbrev pub openFit : List ℕ → ℕ → List Reassembly → Bool
+openFit map i ms = allFrom 0 (λ (place : ℕ) (m : Reassembly). holdsNeed map (ownerOf i place) m) ms
+
+-- the rules of a row, but for the blocks of what is not open
+unfoldable pub rowSound : ℕ → List ℕ → ℕ → Row → Bool
+rowSound major map i r = pick (eqb (r .id .0) 0) (freeFits r) (openFit map i (r .messages) && sessionFits major r)
+
+-- a number of a session; 0 for a free row
+unfoldable pub ofSession : (Row → ℕ) → Row → ℕ
+ofSession f r = pick (eqb (r .id .0) 0) 0 (f r)
+
+unfoldable pub heldSum : List Row → ℕ
+heldSum [] = 0
+heldSum (r ∷ rs) = ofSession heldOf r + heldSum rs
+
+unfoldable pub shareSum : List Row → ℕ
+shareSum [] = 0
+shareSum (r ∷ rs) = ofSession shareOf r + shareSum rs

@@ -2,15 +2,15 @@
 // It reads the state and changes nothing; it knows no frame and no pool but its length.
 ghost use mathlib.Core.Path.{_≡_};
 ghost use Prim.Native.Nat.{ℕ, _<_, _≤_, min};
-ghost use mathlib.Core.List.{List};
+ghost use mathlib.Core.Bool.{_||_};
 ghost use lib.Dec.{eqb};
 ghost use lib.ListN.{length, drop};
 ghost use Rattle.numbers.specs.Bytes.{pick};
-ghost use Rattle.blocks.specs.Map.{heldBy};
 ghost use Rattle.session.specs.Rules.{isRunning};
-ghost use Rattle.session.specs.Decide.{needOf};
-ghost use Rattle.link.specs.State.{allFrom, indexOf, sharesIn, lowestFree, settingsFit, distinctIds, roomFits, versionAllowed, serviceAt, messageFits, unsettledFits, freeFits, rowFits, rulesHold, grantFits, guardOf};
-ghost use Rattle.rules.specs.Parts.{AtMost, Counted, sumOf, noneLive, placesFit, sessionFits};
+ghost use Rattle.session.specs.Decide.{heldOf, shareOf};
+ghost use Rattle.link.specs.Pages.{FiveEach};
+ghost use Rattle.link.specs.State.{allFrom, indexOf, sharesIn, lowestFree, settingsFit, roomFits, versionAllowed, serviceAt, messageFits, unsettledFits, freeFits, rulesHold, grantFits, guardOf};
+ghost use Rattle.rules.specs.Parts.{noneLive, sessionFits, idsOf, missingIn, distinctIn, holdsNeed, openFit, rowSound, ofSession, heldSum, shareSum};
 use blocks::Owner;
 use frame::SessionId;
 use link::Grant;
@@ -18,9 +18,6 @@ use link::Link;
 use payload::version::Version;
 use session::Reassembly;
 use session::Row;
-
-// Owners that a block can have: nobody, and one for each of five places in each of eight rows.
-const OWNERS: usize = 41;
 
 // Each place's service number.
 const SERVICES: [u8; 5] = [0, 7, 10, 11, 15];
@@ -83,32 +80,59 @@ fn grant_fits(grant: Grant) -> bool
     (grant.guarantee <= grant.cap) & (grant.cap <= 256)
 }
 
-// Whether no row from a place on has an id.
-fn is_missing(rows: [Row; 8], from: usize, number: u8) -> bool
+// The rows' ids. Each index is a number, so that the compiler reads eight bytes and copies no row.
+fn ids_of(rows: [Row; 8]) -> [u8; 8]
+    ensures { λ r. ⌜ r ≡ idsOf rows ⌝ }
+{
+    [
+        rows[0].id.0,
+        rows[1].id.0,
+        rows[2].id.0,
+        rows[3].id.0,
+        rows[4].id.0,
+        rows[5].id.0,
+        rows[6].id.0,
+        rows[7].id.0,
+    ]
+}
+
+// Whether no id from a place on is this one.
+fn is_missing(ids: [u8; 8], from: usize, number: u8) -> bool
     requires { ⌜ from ≤ 8 ⌝ }
-    ensures { λ r. ⌜ r ≡ eqb (indexOf number (drop from rows)) (length (drop from rows)) ⌝ }
+    ensures { λ r. ⌜ r ≡ missingIn number (drop from ids) ⌝ }
 {
     let mut missing = true;
     let mut i = from;
     while i < 8 {
-        missing = missing & (rows[i].id.0 != number);
+        missing = missing & (ids[i] != number);
         i += 1;
     }
     missing
 }
 
-// A row that is not free has an id that no later row has.
-fn distinct_ids(rows: [Row; 8]) -> bool
-    ensures { λ r. ⌜ r ≡ distinctIds rows ⌝ }
+// A free row has no id to be found again.
+fn is_once(ids: [u8; 8], from: usize, number: u8) -> bool
+    requires { ⌜ from ≤ 8 ⌝ }
+    ensures { λ r. ⌜ r ≡ (eqb number 0 || missingIn number (drop from ids)) ⌝ }
 {
-    let mut distinct = true;
+    if number == 0 {
+        return true;
+    }
+    is_missing(ids, from, number)
+}
+
+// A row that is not free has an id that no later row has.
+fn distinct(ids: [u8; 8]) -> bool
+    ensures { λ r. ⌜ r ≡ distinctIn ids ⌝ }
+{
+    let mut apart = true;
     let mut i: usize = 0;
     while i < 8 {
-        let number = rows[i].id.0;
-        distinct = distinct & ((number == 0) | is_missing(rows, i + 1, number));
+        let number = ids[i];
+        apart = apart & is_once(ids, i + 1, number);
         i += 1;
     }
-    distinct
+    apart
 }
 
 // G ≤ C ≤ 256, and no more held than C.
@@ -180,8 +204,9 @@ fn messages_fit(row: Row, messages: [Reassembly; 5]) -> bool
     fit
 }
 
+// The messages are five, for the callers' proofs.
 fn none_live(messages: [Reassembly; 5]) -> bool
-    ensures { λ r. ⌜ r ≡ noneLive messages ⌝ }
+    ensures { λ r. ⌜ (r ≡ noneLive messages) × (length messages ≡ 5) ⌝ }
 {
     let mut none = true;
     let mut place: usize = 0;
@@ -202,7 +227,7 @@ fn unsettled_fits(row: Row) -> bool
 
 // A free row is as creation made it.
 fn free_fits(row: Row) -> bool
-    ensures { λ r. ⌜ r ≡ freeFits row ⌝ }
+    ensures { λ r. ⌜ (r ≡ freeFits row) × (length (row .messages) ≡ 5) ⌝ }
 {
     let messages = row.messages;
     (row.guarantee == 0) & ((row.cap == 0) & none_live(messages))
@@ -218,169 +243,100 @@ fn session_fits(major: u8, row: Row) -> bool
             & (unsettled_fits(row) & messages_fit(row, messages)))
 }
 
-fn wide(count: u16) -> usize
-    ensures { λ r. ⌜ (r ≡ count) × (r ≤ 65535) ⌝ }
+// An open message holds as many blocks as it needs. What is not open is not looked up in the map: `rules_hold` says why.
+fn holds_need(map: &[u8], owner: u8, message: Reassembly) -> bool
+    ensures { λ r. ⌜ r ≡ holdsNeed (now (map .entry)) owner message ⌝ }
 {
-    count as usize
-}
-
-fn index(owner: u8) -> usize
-    ensures { λ r. ⌜ r ≡ owner ⌝ }
-{
-    owner as usize
-}
-
-// The sum of all counts.
-fn total(counts: [u16; OWNERS]) -> usize
-    ensures { λ r. ⌜ (r ≡ sumOf counts) × (length counts ≡ 41) ⌝ }
-{
-    let mut sum: usize = 0;
-    let mut k: usize = 0;
-    while k < OWNERS {
-        sum += wide(counts[k]);
-        k += 1;
+    if !message.live {
+        return true;
     }
-    sum
+    blocks::held(map, Owner(owner)) == session::need_of(message.total)
 }
 
-// The blocks of an owner that may have some; 0 for another, which is not counted.
-fn count_if(map: &[u8], owner: u8, likely: bool) -> u16
-    requires { ⌜ length (now map) ≤ 256 ⌝ }
-    ensures { λ r. ⌜ r ≤ heldBy owner (now (map .entry)) ⌝ }
-{
-    if likely {
-        return blocks::held(map, Owner(owner)) as u16;
-    }
-    0
-}
-
-// Counts with those of row i's open messages.
-fn count_row(
-    counts: [u16; OWNERS],
-    map: &[u8],
-    i: usize,
-    messages: [Reassembly; 5],
-) -> [u16; OWNERS]
-    requires { ⌜ (i < 8) × ((length (now map) ≤ 256) × AtMost counts (now map)) ⌝ }
-    ensures { λ r. ⌜ AtMost r (now (map .entry)) ⌝ }
-{
-    let mut after = counts;
-    let mut place: usize = 0;
-    while place < 5 {
-        let owner = 1 + (i * 5 + place);
-        after[owner] = count_if(map, owner as u8, messages[place].live);
-        place += 1;
-    }
-    after
-}
-
-// The counts of nobody's blocks and of the open messages'.
-fn count_open(map: &[u8], rows: [Row; 8]) -> [u16; OWNERS]
-    requires { ⌜ length (now map) ≤ 256 ⌝ }
-    ensures { λ r. ⌜ AtMost r (now (map .entry)) ⌝ }
-{
-    let mut counts = [0u16; OWNERS];
-    counts[0] = count_if(map, 0, true);
-    let mut i: usize = 0;
-    while i < 8 {
-        let row = rows[i];
-        let messages = row.messages;
-        counts = count_row(counts, map, i, messages);
-        i += 1;
-    }
-    counts
-}
-
-// The counts of all owners, in one pass over the map.
-fn count_all(map: &[u8]) -> [u16; OWNERS]
-    requires { ⌜ length (now map) ≤ 256 ⌝ }
-    ensures { λ r. ⌜ Counted r (now (map .entry)) ⌝ }
-{
-    let mut counts = [0u16; OWNERS];
-    let mut i: usize = 0;
-    while i < map.len() {
-        let owner = index(map[i]);
-        if owner < OWNERS {
-            counts[owner] += 1;
-        }
-        i += 1;
-    }
-    counts
-}
-
-// How many blocks each owner has: the count at k is owner k's.
-// Few messages are open, and counting one owner is many times faster than telling all apart: if the open messages' blocks and the free ones
-// are the whole map, no other owner has any. Only a broken state is counted in full.
-fn tally(map: &[u8], rows: [Row; 8]) -> [u16; OWNERS]
-    requires { ⌜ length (now map) ≤ 256 ⌝ }
-    ensures { λ r. ⌜ Counted r (now (map .entry)) ⌝ }
-{
-    let counts = count_open(map, rows);
-    if total(counts) == map.len() {
-        return counts;
-    }
-    count_all(map)
-}
-
-// The blocks that a message holds: none if it is not open.
-fn need_of_message(message: Reassembly) -> usize
-    ensures { λ r. ⌜ r ≡ pick (message .live) (needOf (message .total)) 0 ⌝ }
-{
-    if message.live {
-        return session::need_of(message.total);
-    }
-    0
-}
-
-// Each of row i's messages holds as many blocks as it needs, in whichever map was counted.
-fn blocks_fit(counts: [u16; OWNERS], i: usize, messages: [Reassembly; 5]) -> bool
+// Each of row i's open messages holds as many blocks as it needs. The messages are five, for the caller's proof.
+fn blocks_fit(map: &[u8], i: usize, messages: [Reassembly; 5]) -> bool
     requires { ⌜ i < 8 ⌝ }
-    ensures { λ r. ⌜ ((map : List ℕ) → Counted counts map → r ≡ placesFit map i messages) ⌝ }
+    ensures { λ r. ⌜ (r ≡ openFit (now (map .entry)) i messages) × (length messages ≡ 5) ⌝ }
 {
     let mut fit = true;
     let mut place: usize = 0;
     while place < 5 {
         let message = messages[place];
         let owner = 1 + (i * 5 + place);
-        fit = fit & (wide(counts[owner]) == need_of_message(message));
+        fit = fit & holds_need(map, owner as u8, message);
         place += 1;
     }
     fit
 }
 
-fn row_fits(major: u8, counts: [u16; OWNERS], i: usize, row: Row) -> bool
+// A free row has no open message, so its blocks need no look.
+fn row_fits(major: u8, map: &[u8], i: usize, row: Row) -> bool
     requires { ⌜ i < 8 ⌝ }
-    ensures { λ r. ⌜ ((map : List ℕ) → Counted counts map → r ≡ rowFits major map i row) ⌝ }
+    ensures { λ r. ⌜ (r ≡ rowSound major (now (map .entry)) i row) × (length (row .messages) ≡ 5) ⌝ }
 {
     let messages = row.messages;
     if row.id.0 == 0 {
-        return blocks_fit(counts, i, messages) & free_fits(row);
+        return free_fits(row);
     }
-    blocks_fit(counts, i, messages) & session_fits(major, row)
+    blocks_fit(map, i, messages) & session_fits(major, row)
 }
 
-fn rows_fit(major: u8, counts: [u16; OWNERS], rows: [Row; 8]) -> bool
-    ensures { λ r. ⌜ ((map : List ℕ) → Counted counts map → r ≡ allFrom 0 (rowFits major map) rows) ⌝ }
+// What a session's messages need; nothing of a free row is counted.
+fn held_of(row: Row) -> usize
+    ensures { λ r. ⌜ (r ≡ ofSession heldOf row) × (r ≤ 83886080) ⌝ }
+{
+    if row.id.0 == 0 {
+        return 0;
+    }
+    session::held(row)
+}
+
+fn share_of(row: Row) -> usize
+    ensures { λ r. ⌜ (r ≡ ofSession shareOf row) × (r ≤ 83886080) ⌝ }
+{
+    if row.id.0 == 0 {
+        return 0;
+    }
+    session::share(row)
+}
+
+// What one pass over the rows finds.
+struct Sums {
+    fit: bool,
+    held: usize,
+    shared: usize,
+}
+
+fn sum_rows(major: u8, map: &[u8], rows: [Row; 8]) -> Sums
+    ensures { λ r. ⌜ (r .fit ≡ allFrom 0 (rowSound major (now (map .entry))) rows) × ((r .held ≡ heldSum rows) × ((r .held ≤ 671088640) × ((r .shared ≡ shareSum rows) × ((length rows ≡ 8) × FiveEach rows)))) ⌝ }
 {
     let mut fit = true;
+    let mut held: usize = 0;
+    let mut shared: usize = 0;
     let mut i: usize = 0;
     while i < 8 {
         let row = rows[i];
-        fit = fit & row_fits(major, counts, i, row);
+        fit = fit & row_fits(major, map, i, row);
+        held += held_of(row);
+        shared += share_of(row);
         i += 1;
     }
-    fit
+    Sums {
+        fit: fit,
+        held: held,
+        shared: shared,
+    }
 }
 
-// The state rules, in document 01's order. The map is counted once, for the rows and for the sum.
+// The state rules. If each open message holds what it needs, and these blocks and the free ones are the whole map, no other owner has any.
 fn rules_hold(link: Link) -> bool
     ensures { λ r. ⌜ r ≡ rulesHold link ⌝ }
 {
     let rows = link.rows;
-    let counts = tally(&link.owners, rows);
-    distinct_ids(rows)
-        & (rows_fit(link.version.major, counts, rows)
-            & ((shares(rows) <= 256) & (total(counts) == 256)))
+    let ids = ids_of(rows);
+    let sums = sum_rows(link.version.major, &link.owners, rows);
+    let free = blocks::free_count(&link.owners);
+    distinct(ids) & (sums.fit & ((sums.shared <= 256) & (sums.held + free == 256)))
 }
 
 // Whether refusal 10 is not earned: the pool's length, the settings, the offer and the state are as they must be.

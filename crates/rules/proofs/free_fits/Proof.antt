@@ -10,7 +10,7 @@ none-live-requires c κs = search needs
 
 returns : tie.Need-returns
 unfolding freeFits
-returns c = rw (c .none-live .ensures)
+returns c = (rw (c .none-live .ensures .0), c .none-live .ensures .1)
 
 pub free-fits-spec : {M : Type 1} → statement M
 free-fits-spec = tie.close (tie.spec none-live-requires returns)

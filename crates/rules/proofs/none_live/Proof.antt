@@ -46,7 +46,7 @@ returns c =
     let l = (c .before .loop) in
     let ms = (c .before .before .args .t1) in
     let size : length ms ≡ 5 = (c .before .before .good .0 .1 .0 .1) in
-    sym (all-end (l .none) (λ (m : Reassembly). not (m .live)) ms (l .place) (omega arith)) ∙ l .inv .1
+    (sym (all-end (l .none) (λ (m : Reassembly). not (m .live)) ms (l .place) (omega arith)) ∙ l .inv .1, size)
 
 pub none-live-spec : {M : Type 1} → statement M
 none-live-spec =

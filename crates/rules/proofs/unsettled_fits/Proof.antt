@@ -10,7 +10,7 @@ none-live-requires c κs = search needs
 
 returns : tie.Need-returns
 unfolding unsettledFits
-returns c = rw (c .none-live .ensures)
+returns c = rw (c .none-live .ensures .0)
 
 pub unsettled-fits-spec : {M : Type 1} → statement M
 unsettled-fits-spec = tie.close (tie.spec none-live-requires returns)
