@@ -4,8 +4,11 @@
 // No rule of the protocol stands here: the limits below are those of the words, as docs/DRIVER.md has them.
 ghost use Prim.Native.Nat.{_≤_, _<_};
 ghost use lib.ListN.{length};
+use crate::calls;
 use crate::text;
 use crate::words;
+use calls::Obeyed;
+use calls::Unit;
 use frame::Header;
 use frame::MessageId;
 use frame::Reading;
@@ -26,39 +29,6 @@ const BYTE: usize = 255;
 const WIDE: usize = 4294967295;
 
 pub const OUTLEN: usize = 131084;
-
-// Every byte of an out buffer is this before a call, so that CHECK shows which ones the call wrote.
-const UNTOUCHED: u8 = 0xee;
-
-// A number that was read with the limit BYTE keeps its value here, and one with the limit WIDE below.
-fn byte(number: usize) -> u8 {
-    (number % 256) as u8
-}
-
-fn wide(number: usize) -> u32 {
-    (number % 4294967296) as u32
-}
-
-fn fill(out: &mut [u8]) {
-    let mut i: usize = 0;
-    while i < out.len() {
-        out[i] = UNTOUCHED;
-        i += 1;
-    }
-}
-
-// The CHECK of docs/DRIVER.md of a buffer.
-fn check(buffer: &[u8]) -> u64
-    ensures { λ r. ⌜ r < 4294967296 ⌝ }
-{
-    let mut sum: u64 = 7;
-    let mut i: usize = 0;
-    while i < buffer.len() {
-        sum = (sum * 31 + buffer[i] as u64) % 4294967296;
-        i += 1;
-    }
-    sum
-}
 
 fn put_frame(
     answers: &mut [u8],
@@ -116,7 +86,7 @@ fn put_written(answers: &mut [u8], at: usize, written: Written, out: &[u8]) -> u
 {
     match written {
         Written::Bytes(count) => {
-            let end = text::put_numbers(answers, at, b"B", &[count as u64, check(out)]);
+            let end = text::put_numbers(answers, at, b"B", &[count as u64, text::check(out)]);
             let start = text::put(answers, end, b" ");
             text::put_hex(answers, start, text::front(out, count))
         }
@@ -133,21 +103,21 @@ fn write_frame(
 ) -> usize
     ensures { λ r. ⌜ r ≤ length (now (answers .exit)) ⌝ }
 {
-    fill(out);
+    text::fill(out);
     let written = frame::write(header, payload, out);
     put_written(answers, at, written, out)
 }
 
 fn header_of(values: [usize; 9]) -> Header {
     Header {
-        version: byte(values[0]),
+        version: words::byte(values[0]),
         flag: values[1] == 1,
-        kind: byte(values[2]),
-        service: ServiceType(byte(values[3])),
-        info: byte(values[4]),
-        session: SessionId(byte(values[5])),
-        size: wide(values[6]),
-        message: MessageId(wide(values[7])),
+        kind: words::byte(values[2]),
+        service: ServiceType(words::byte(values[3])),
+        info: words::byte(values[4]),
+        session: SessionId(words::byte(values[5])),
+        size: words::wide(values[6]),
+        message: MessageId(words::wide(values[7])),
     }
 }
 
@@ -162,10 +132,8 @@ fn write(
 ) -> Parsed {
     let limits = [BYTE, FLAG, BYTE, BYTE, BYTE, BYTE, WIDE, WIDE, OUTLEN];
     let mut values = [0usize; 9];
-    let Parsed::Good(end) = words::numbers(line, space, &limits, &mut values) else {
-        return Parsed::Bad;
-    };
-    let Parsed::Good(count) = words::hex(line, end, content) else {
+    let Parsed::Good(count) = words::numbers_and_hex(line, space, &limits, &mut values, content)
+    else {
         return Parsed::Bad;
     };
     let payload = text::front(content, count);
@@ -183,18 +151,18 @@ fn send_frame(
 ) -> usize
     ensures { λ r. ⌜ r ≤ length (now (answers .exit)) ⌝ }
 {
-    fill(out);
+    text::fill(out);
     let written = sender::send(outgoing, k, message, out);
     put_written(answers, at, written, out)
 }
 
 fn outgoing_of(values: [usize; 7]) -> Outgoing {
     Outgoing {
-        version: byte(values[0]),
-        service: ServiceType(byte(values[1])),
-        session: SessionId(byte(values[2])),
-        message: MessageId(wide(values[3])),
-        chunk: wide(values[4]),
+        version: words::byte(values[0]),
+        service: ServiceType(words::byte(values[1])),
+        session: SessionId(words::byte(values[2])),
+        message: MessageId(words::wide(values[3])),
+        chunk: words::wide(values[4]),
     }
 }
 
@@ -209,10 +177,8 @@ fn send(
 ) -> Parsed {
     let limits = [BYTE, BYTE, BYTE, WIDE, WIDE, WIDE, OUTLEN];
     let mut values = [0usize; 7];
-    let Parsed::Good(end) = words::numbers(line, space, &limits, &mut values) else {
-        return Parsed::Bad;
-    };
-    let Parsed::Good(count) = words::hex(line, end, content) else {
+    let Parsed::Good(count) = words::numbers_and_hex(line, space, &limits, &mut values, content)
+    else {
         return Parsed::Bad;
     };
     let message = text::front(content, count);
@@ -221,7 +187,7 @@ fn send(
         answers,
         at,
         outgoing_of(values),
-        wide(values[5]),
+        words::wide(values[5]),
         message,
         &mut out[0..lent],
     ))
@@ -285,8 +251,8 @@ fn read_payload(
     Parsed::Good(put_payload(answers, at, payload::read(input), input))
 }
 
-// The command that the first word names.
-fn obey(line: &[u8], content: &mut [u8], out: &mut [u8], answers: &mut [u8], at: usize) -> Parsed {
+// A command without a link, by the first word.
+fn ask(line: &[u8], content: &mut [u8], out: &mut [u8], answers: &mut [u8], at: usize) -> Parsed {
     let space = words::first_end(line);
     let name = text::front(line, space);
     if words::same(name, b"read") {
@@ -304,18 +270,57 @@ fn obey(line: &[u8], content: &mut [u8], out: &mut [u8], answers: &mut [u8], at:
     Parsed::Bad
 }
 
-// The answer to a line, with its newline.
-pub fn answer(
+// The command that the first word names.
+fn obey(
+    unit: Unit,
     line: &[u8],
     content: &mut [u8],
     out: &mut [u8],
+    pool: &mut [u8],
     answers: &mut [u8],
     at: usize,
-) -> usize
-    ensures { λ r. ⌜ r ≤ length (now (answers .exit)) ⌝ }
+) -> Obeyed {
+    let space = words::first_end(line);
+    let name = text::front(line, space);
+    if words::same(name, b"new") {
+        return calls::new(unit, line, space, pool, answers, at);
+    }
+    if words::same(name, b"call") {
+        return calls::call(unit, line, space, content, out, pool, answers, at);
+    }
+    Obeyed {
+        parsed: ask(line, content, out, answers, at),
+        unit: unit,
+    }
+}
+
+// What the answer to a line leaves: where it ends, and the link.
+pub struct Answered {
+    pub end: usize,
+    pub unit: Unit,
+}
+
+// The answer to a line, with its newline.
+pub fn answer(
+    unit: Unit,
+    line: &[u8],
+    content: &mut [u8],
+    out: &mut [u8],
+    pool: &mut [u8],
+    answers: &mut [u8],
+    at: usize,
+) -> Answered
+    ensures { λ r. ⌜ r .end ≤ length (now (answers .exit)) ⌝ }
 {
-    match obey(line, content, out, answers, at) {
+    let obeyed = obey(unit, line, content, out, pool, answers, at);
+    let parsed = obeyed.parsed;
+    let after = obeyed.unit;
+    let end = match parsed {
         Parsed::Good(end) => text::put(answers, end, b"\n"),
         Parsed::Bad => text::put(answers, at, b"?\n"),
+    };
+    Answered {
+        end: end,
+        unit: after,
     }
 }

@@ -1,14 +1,16 @@
 // The driver: reads lines from standard input and answers each on standard output, as docs/DRIVER.md says.
 // This file holds the buffers, the gathering of lines and the writing of answers. It assumes nothing of the input: bytes of any kind and any number.
-// words.rt reads a line's words, commands.rt makes the calls, text.rt spells the answers.
+// words.rt reads a line's words, commands.rt and calls.rt make the calls, text.rt spells the answers.
+mod calls;
 mod commands;
 mod text;
 mod words;
 
+use calls::Unit;
 use libc::STDIN_FILENO;
 use libc::STDOUT_FILENO;
 
-// No answer is longer: 131,084 bytes take 262,168 digits, and the words beside them far less than the rest.
+// No answer is longer: 131,084 bytes take 262,168 digits, and the words beside them, a link's state among them, far less than the rest.
 const LONGEST_ANSWER: usize = 280000;
 
 // What is carried from one piece of the input to the next.
@@ -21,6 +23,8 @@ struct State {
     more: bool,
     // every write so far was taken
     taken: bool,
+    // the link that `new` made
+    unit: Unit,
 }
 
 // Writes the waiting answers. After a write that failed nothing more is written or read.
@@ -47,13 +51,22 @@ fn answer(
     line: &[u8],
     content: &mut [u8],
     out: &mut [u8],
+    pool: &mut [u8],
     answers: &mut [u8],
 ) -> State {
     if answers.len() - text::least(state.waiting, answers.len()) < LONGEST_ANSWER {
         state = flush(state, answers);
     }
-    state.waiting = commands::answer(line, content, out, answers, state.waiting);
-    state
+    let unit = state.unit;
+    let answered = commands::answer(unit, line, content, out, pool, answers, state.waiting);
+    let after = answered.unit;
+    State {
+        filled: state.filled,
+        waiting: answered.end,
+        more: state.more,
+        taken: state.taken,
+        unit: after,
+    }
 }
 
 // The line buffer has one byte more than the longest line, so a line that fills it is too long: a line that no command reads is answered instead.
@@ -62,6 +75,7 @@ fn end_line(
     line: &[u8],
     content: &mut [u8],
     out: &mut [u8],
+    pool: &mut [u8],
     answers: &mut [u8],
 ) -> State {
     let whole = text::front(line, state.filled);
@@ -70,9 +84,27 @@ fn end_line(
         return state;
     }
     if whole.len() == line.len() {
-        return answer(state, b"?", content, out, answers);
+        return answer(state, b"?", content, out, pool, answers);
     }
-    answer(state, whole, content, out, answers)
+    answer(state, whole, content, out, pool, answers)
+}
+
+// A part of a line goes behind what is gathered; where the line ends with it, the line is answered.
+fn take_part(
+    mut state: State,
+    part: &[u8],
+    ends: bool,
+    line: &mut [u8],
+    content: &mut [u8],
+    out: &mut [u8],
+    pool: &mut [u8],
+    answers: &mut [u8],
+) -> State {
+    state.filled = text::put(line, state.filled, part);
+    if ends {
+        return end_line(state, line, content, out, pool, answers);
+    }
+    state
 }
 
 // Answers the lines that end in a piece of the input. What stands behind the last newline waits in the line buffer.
@@ -82,29 +114,43 @@ fn take_piece(
     line: &mut [u8],
     content: &mut [u8],
     out: &mut [u8],
+    pool: &mut [u8],
     answers: &mut [u8],
 ) -> State {
     let mut after = state;
     let mut at: usize = 0;
     while at < piece.len() {
         let end = bytes::scan::find(piece, at, piece.len(), b'\n');
-        after.filled = text::put(line, after.filled, &piece[at..end]);
-        if end == piece.len() {
-            return after;
-        }
-        after = end_line(after, line, content, out, answers);
-        at = end + 1;
+        let part = &piece[at..end];
+        let ends = end < piece.len();
+        after = take_part(after, part, ends, line, content, out, pool, answers);
+        at = text::past(end, piece.len());
     }
     after
 }
 
-// Reads once. The answers are written before the next read, which may wait: whoever sends a line can wait for its answer.
+// The answers are written before the next read, which may wait: whoever sends a line can wait for its answer.
+fn answer_piece(
+    state: State,
+    piece: &[u8],
+    line: &mut [u8],
+    content: &mut [u8],
+    out: &mut [u8],
+    pool: &mut [u8],
+    answers: &mut [u8],
+) -> State {
+    let after = take_piece(state, piece, line, content, out, pool, answers);
+    flush(after, answers)
+}
+
+// Reads once.
 fn read_piece(
     mut state: State,
     piece: &mut [u8],
     line: &mut [u8],
     content: &mut [u8],
     out: &mut [u8],
+    pool: &mut [u8],
     answers: &mut [u8],
 ) -> State {
     let got = libc::read(STDIN_FILENO, piece);
@@ -113,8 +159,7 @@ fn read_piece(
         return state;
     }
     let count = io::count(got, piece);
-    state = take_piece(state, &piece[..count], line, content, out, answers);
-    flush(state, answers)
+    answer_piece(state, &piece[..count], line, content, out, pool, answers)
 }
 
 // A proved loop has to end, and nothing says that the input does. So the turns are counted down, from a number that no run uses up.
@@ -123,6 +168,7 @@ fn serve(
     line: &mut [u8],
     content: &mut [u8],
     out: &mut [u8],
+    pool: &mut [u8],
     answers: &mut [u8],
 ) {
     let mut state = State {
@@ -130,14 +176,15 @@ fn serve(
         waiting: 0,
         more: true,
         taken: true,
+        unit: calls::no_unit(),
     };
     let mut turns = u64::MAX;
     while turns > 0 && state.more {
-        state = read_piece(state, piece, line, content, out, answers);
+        state = read_piece(state, piece, line, content, out, pool, answers);
         turns -= 1;
     }
     // the last line may lack its newline
-    state = end_line(state, line, content, out, answers);
+    state = end_line(state, line, content, out, pool, answers);
     flush(state, answers);
 }
 
@@ -148,6 +195,14 @@ fn main() {
     // a byte takes two digits, so a line says fewer
     let mut content = [0u8; 150000];
     let mut out = [0u8; commands::OUTLEN];
+    let mut pool = [0u8; 65536];
     let mut answers = [0u8; 400000];
-    serve(&mut piece, &mut line, &mut content, &mut out, &mut answers);
+    serve(
+        &mut piece,
+        &mut line,
+        &mut content,
+        &mut out,
+        &mut pool,
+        &mut answers,
+    );
 }

@@ -13,6 +13,19 @@ pub enum Parsed {
     Bad,
 }
 
+// A number that was read with a limit of 8, 16 or 32 bits keeps its value here.
+pub fn byte(number: usize) -> u8 {
+    (number % 256) as u8
+}
+
+pub fn half(number: usize) -> u16 {
+    (number % 65536) as u16
+}
+
+pub fn wide(number: usize) -> u32 {
+    (number % 4294967296) as u32
+}
+
 // Where the first word ends.
 pub fn first_end(line: &[u8]) -> usize
     ensures { λ r. ⌜ r ≤ length (now (line .entry)) ⌝ }
@@ -87,6 +100,14 @@ pub fn numbers(line: &[u8], space: usize, limits: &[usize], values: &mut [usize]
     Parsed::Good(end)
 }
 
+// The same, where the line ends behind the last of them.
+pub fn all_numbers(line: &[u8], space: usize, limits: &[usize], values: &mut [usize]) -> bool {
+    let Parsed::Good(end) = numbers(line, space, limits, values) else {
+        return false;
+    };
+    end == line.len()
+}
+
 // The last word, in lower-case hexadecimal or `-` for no bytes, as bytes to the front of `content`. Answers how many.
 // A word too many is refused too: it leaves a space within what is read here.
 pub fn hex(line: &[u8], space: usize, content: &mut [u8]) -> Parsed {
@@ -104,4 +125,18 @@ pub fn hex(line: &[u8], space: usize, content: &mut [u8]) -> Parsed {
         return Parsed::Bad;
     };
     Parsed::Good(count)
+}
+
+// Numbers as above, and the last word as bytes. Answers how many.
+pub fn numbers_and_hex(
+    line: &[u8],
+    space: usize,
+    limits: &[usize],
+    values: &mut [usize],
+    content: &mut [u8],
+) -> Parsed {
+    let Parsed::Good(end) = numbers(line, space, limits, values) else {
+        return Parsed::Bad;
+    };
+    hex(line, end, content)
 }

@@ -7,12 +7,13 @@ use Rattle.driver.proofs.serve.Statement.{statement}
 use Rattle.driver.proofs.serve.Tie as tie
 
 abbrev Inv-loop : tie.InvT-loop
-Inv-loop piece₀ line₀ content₀ out₀ answers₀ state₀ turns₀ piece line content out answers state turns =
-    (length piece ≡ length piece₀) × (length line ≡ length line₀) × (length content ≡ length content₀) × (length out ≡ length out₀) × (length answers ≡ length answers₀)
+Inv-loop piece₀ line₀ content₀ out₀ pool₀ answers₀ state₀ turns₀ piece line content out pool answers state turns = (length piece ≡ length piece₀) × (length line ≡ length line₀) × (length content ≡ length content₀) × (length out ≡ length out₀) × (length pool ≡ length pool₀) × (length answers ≡ length answers₀)
 
 abbrev μ-loop : tie.MeasureT-loop
-μ-loop piece₀ line₀ content₀ out₀ answers₀ state₀ turns₀ piece line content out answers state turns =
-    turns
+μ-loop piece₀ line₀ content₀ out₀ pool₀ answers₀ state₀ turns₀ piece line content out pool answers state turns = turns
+
+no-unit-requires : tie.Need-no-unit-requires Inv-loop μ-loop
+no-unit-requires c κs = search needs
 
 loop-holds : tie.Need-loop-holds Inv-loop μ-loop
 loop-holds c = search needs
@@ -50,6 +51,9 @@ same-length-4 c = search needs
 same-length-5 : tie.Need-same-length-5 Inv-loop μ-loop
 same-length-5 c = search needs
 
+same-length-6 : tie.Need-same-length-6 Inv-loop μ-loop
+same-length-6 c = search needs
+
 returns : tie.Need-returns Inv-loop μ-loop
 returns c = search needs
 
@@ -59,6 +63,7 @@ serve-spec =
     (tie.spec
     Inv-loop
     μ-loop
+    no-unit-requires
     loop-holds
     read-piece-requires
     sub-turns
@@ -71,4 +76,5 @@ serve-spec =
     same-length-3
     same-length-4
     same-length-5
+    same-length-6
     returns)

@@ -1,29 +1,26 @@
--- `driver::text::put_numbers` meets its contract. The position stays within the buffer, and each turn passes one number.
+-- `driver::text::put_each` meets its contract. The position stays within the buffer, and each turn passes one number.
 -- Assumes nothing.
 use Prim.Native.Nat.{_≤_, _-_}
 use mathlib.Core.Path.{_≡_}
 use lib.ListN.{length}
 use borrow.Author.Needs.{needs}
-use Rattle.driver.proofs.text.put_numbers.Statement.{statement}
-use Rattle.driver.proofs.text.put_numbers.Tie as tie
+use Rattle.driver.proofs.text.put_each.Statement.{statement}
+use Rattle.driver.proofs.text.put_each.Tie as tie
 
 abbrev Inv-loop : tie.InvT-loop
-Inv-loop buffer₀ at letter numbers end₀ i₀ t7 buffer end i = (i ≤ length numbers) × (end ≤ length buffer) × (length buffer ≡ length buffer₀)
+Inv-loop buffer₀ at before numbers end₀ i₀ buffer end i = (i ≤ length numbers) × (end ≤ length buffer) × (length buffer ≡ length buffer₀)
 
 abbrev μ-loop : tie.MeasureT-loop
-μ-loop buffer₀ at letter numbers end₀ i₀ t7 buffer end i = length numbers - i
+μ-loop buffer₀ at before numbers end₀ i₀ buffer end i = length numbers - i
 
-put-requires : tie.Need-put-requires Inv-loop μ-loop
-put-requires c κs = search needs
+least-requires : tie.Need-least-requires Inv-loop μ-loop
+least-requires c κs = search needs
 
 loop-holds : tie.Need-loop-holds Inv-loop μ-loop
 loop-holds c = search needs
 
-slice-aggregate-put : tie.Need-slice-aggregate-put Inv-loop μ-loop
-slice-aggregate-put c = search needs
-
-put-requires-2 : tie.Need-put-requires-2 Inv-loop μ-loop
-put-requires-2 c κs = search needs
+put-requires : tie.Need-put-requires Inv-loop μ-loop
+put-requires c κs = search needs
 
 mul-put-decimal : tie.Need-mul-put-decimal Inv-loop μ-loop
 mul-put-decimal c = search needs
@@ -49,16 +46,15 @@ same-length c = search needs
 returns : tie.Need-returns Inv-loop μ-loop
 returns c = search needs
 
-pub put-numbers-spec : {M : Type 1} → statement M
-put-numbers-spec =
+pub put-each-spec : {M : Type 1} → statement M
+put-each-spec =
     tie.close
     (tie.spec
     Inv-loop
     μ-loop
-    put-requires
+    least-requires
     loop-holds
-    slice-aggregate-put
-    put-requires-2
+    put-requires
     mul-put-decimal
     shared-slice-read-put-decimal
     put-decimal-requires

@@ -1,11 +1,11 @@
--- `driver::commands::check` meets its contract. The sum stays below 2^32 at each turn, so the next product and sum fit 64 bits.
+-- `driver::text::check` meets its contract. The sum stays below 2^32 at each turn, so the next product and sum fit 64 bits.
 -- Assumes nothing.
 use Prim.Native.Nat.{_≤_, _<_, _-_}
 use lib.ListN.{length}
 use native.Mathlib.Omega.{arith}
 use borrow.Author.Needs.{needs}
-use Rattle.driver.proofs.commands.check.Statement.{statement}
-use Rattle.driver.proofs.commands.check.Tie as tie
+use Rattle.driver.proofs.text.check.Statement.{statement}
+use Rattle.driver.proofs.text.check.Tie as tie
 
 abbrev Inv-loop : tie.InvT-loop
 Inv-loop buffer sum₀ i₀ sum i = (i ≤ length buffer) × (sum < 4294967296)

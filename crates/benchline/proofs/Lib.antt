@@ -1,0 +1,3 @@
+mod Texts
+mod Lines
+mod Figures

@@ -1,0 +1,153 @@
+// Pace: makes the link's calls again and again, so that a benchmark can time them from outside. No part of the product.
+// Standard input has four numbers of 32 bits, most significant byte first: the bytes of a place, the bytes of the beginning, the bytes that are
+// gone over again and again, and how often; then the places, a frame at the front of each. What follows a frame is ignored by the link.
+// It writes how many calls were accepted. It assumes nothing of the input: what is missing is left out.
+ghost use mathlib.Core.Path.{_≡_};
+ghost use Prim.Native.Nat.{_+_, min, max};
+use libc::STDIN_FILENO;
+use libc::STDOUT_FILENO;
+use lines::Encoded;
+use link::Answer;
+use link::Grant;
+use link::Link;
+use payload::version::Version;
+
+// The script's longest length.
+const LONGEST: usize = 300000;
+
+// What is carried from one call to the next.
+struct Run {
+    link: Link,
+    accepted: u64,
+}
+
+fn least(a: usize, b: usize) -> usize
+    ensures { λ r. ⌜ r ≡ min a b ⌝ }
+{
+    if a < b { a } else { b }
+}
+
+// The next place of `size` bytes, at least one, within a length.
+fn behind(at: usize, size: usize, length: usize) -> usize
+    ensures { λ r. ⌜ r ≡ min (at + max size 1) length ⌝ }
+{
+    if length <= at {
+        return length;
+    }
+    if size == 0 {
+        return at + 1;
+    }
+    if length - at <= size {
+        return length;
+    }
+    at + size
+}
+
+fn is_accepted(answer: Answer) -> bool {
+    match answer {
+        Answer::Short(_) => false,
+        Answer::Refused(_) => false,
+        Answer::Acked(_, _) => true,
+        Answer::Nacked(_, _) => true,
+        Answer::Beat(_, _) => true,
+        Answer::Accepted(_) => true,
+        Answer::Delivered(_, _, _) => true,
+    }
+}
+
+fn call(run: Run, input: &[u8], pool: &mut [u8], out: &mut [u8]) -> Run {
+    let grant = Grant {
+        guarantee: 0,
+        cap: 256,
+        hash: 39027,
+    };
+    let link = run.link;
+    let called = headunit::call(link, pool, input, out, grant);
+    let answer = called.answer;
+    let after = called.link;
+    let more = is_accepted(answer) as u64;
+    Run {
+        link: after,
+        accepted: std::num::wrapping_add_u64(run.accepted, more),
+    }
+}
+
+// Calls the link with each place's front.
+fn go_over(run: Run, places: &[u8], size: usize, pool: &mut [u8], out: &mut [u8]) -> Run {
+    let mut now = run;
+    let mut at: usize = 0;
+    while at < places.len() {
+        now = call(now, &places[at..], pool, out);
+        at = behind(at, size, places.len());
+    }
+    now
+}
+
+fn repeat(
+    run: Run,
+    times: u32,
+    places: &[u8],
+    size: usize,
+    pool: &mut [u8],
+    out: &mut [u8],
+) -> Run {
+    let mut now = run;
+    let mut left = times;
+    while 0 < left {
+        now = go_over(now, places, size, pool, out);
+        left -= 1;
+    }
+    now
+}
+
+fn start() -> Run {
+    let version = Version {
+        major: 5,
+        minor: 4,
+        patch: 1,
+    };
+    let created = headunit::create(version, 131084);
+    let link = created.link;
+    Run { link, accepted: 0 }
+}
+
+// The beginning once, then the rest so often.
+fn serve(script: &[u8], pool: &mut [u8], out: &mut [u8]) -> u64 {
+    let size = numbers::be4(script, 0) as usize;
+    let first = least(numbers::be4(script, 4) as usize, LONGEST);
+    let again = least(numbers::be4(script, 8) as usize, LONGEST);
+    let times = numbers::be4(script, 12);
+    let start_at = least(16, script.len());
+    let middle = least(start_at + first, script.len());
+    let end = least(middle + again, script.len());
+    let mut run = go_over(start(), &script[start_at..middle], size, pool, out);
+    run = repeat(run, times, &script[middle..end], size, pool, out);
+    run.accepted
+}
+
+// The first bytes of a slice, all of them where it has fewer.
+fn front(whole: &[u8], count: usize) -> &[u8] {
+    let end = least(count, whole.len());
+    &whole[0..end]
+}
+
+// A number and a newline.
+fn report(number: u64) {
+    let mut text = [b'\n'; 21];
+    match lines::number_to_decimal(number, &mut text) {
+        Encoded::Chars(digits) => {
+            let end = behind(digits, 1, 21);
+            io::write_all(STDOUT_FILENO, front(&text, end));
+        }
+        Encoded::Full => (),
+    }
+}
+
+fn main() {
+    let mut script = [0u8; LONGEST];
+    let mut pool = [0u8; 65536];
+    let mut out = [0u8; 65536];
+    let count = io::read_full(STDIN_FILENO, &mut script);
+    let accepted = serve(&script[..count], &mut pool, &mut out);
+    report(accepted);
+}
