@@ -199,7 +199,7 @@ fn scripts_reach_every_answer() {
         ("write", "B,R 1,R 2,R 3,R 4,R 5,R 6,R 11,?"),
         ("send", "B,R 1,R 3,R 10,R 11,R 18,R 26,?"),
         ("payload", "T,R 30,R 31,R 32,R 33,R 34,?"),
-        // `call` joins with CALLS_SERVED; until then tests/calls.rs has its census
+        ("call", "W,D,A,S,R 10,R 11,R 20,?"),
     ] {
         for answer in answers.split(',') {
             let times = kinds.get(&(command.into(), answer.into()));

@@ -95,13 +95,9 @@ fn any_line(random: &mut Random, calls: &mut Calls) -> Vec<u8> {
     }
 }
 
-/// The driver answers `?` to `new` and `call` until it serves them; until then
-/// the mixture has none, and `--calls` is for the reference alone.
-const CALLS_SERVED: bool = false;
-
 /// A readable line of any command that the driver serves.
 fn command_line(random: &mut Random, calls: &mut Calls) -> Vec<u8> {
-    match random.below(if CALLS_SERVED { 5 } else { 4 }) {
+    match random.below(5) {
         0 => read_lines::line(random),
         1 => write_lines::line(random),
         2 => send_lines::line(random),
