@@ -13,7 +13,7 @@ use Rattle.blocks.specs.declared.Found.the-variants.{Block, Missing}
 abbrev pub blockSize : ℕ
 blockSize = 256
 
--- the blocks of the whole pool
+-- the blocks of the whole pool: "the pool of 65,536 bytes"
 abbrev pub blockCount : ℕ
 blockCount = 256
 
@@ -21,11 +21,11 @@ blockCount = 256
 abbrev pub free : ℕ
 free = 0
 
--- how many blocks so many bytes need: (total + 255) / 256, rounded down
+-- how many blocks so many bytes need: "(total + 255) / 256 rounded down". The link's own is `needOf` (session/specs/Decide), since session does not know blocks
 unfoldable pub neededFor : ℕ → ℕ
 neededFor total = (total + (blockSize - 1)) / blockSize
 
--- the map in which every block is free
+-- the map in which every block is free: "made as [free; 256] at link creation"
 unfoldable pub freeMap : List ℕ
 freeMap = replicate blockCount free
 
@@ -52,12 +52,12 @@ abbrev pub Below : ℕ → List ℕ → Type 0
 Below bound [] = Unit {0}
 Below bound (o ∷ map) = (o < bound) × Below bound map
 
--- the map after the lowest n free blocks, or all of them if there are fewer, went to an owner
+-- "it takes the lowest free blocks in rising order": the map after the lowest n free blocks, or all of them if there are fewer, went to an owner
 unfoldable pub claimed : ℕ → ℕ → List ℕ → List ℕ
 claimed owner n [] = []
 claimed owner n (o ∷ map) = pick (eqb o free && ltb 0 n) (owner ∷ claimed owner (n - 1) map) (o ∷ claimed owner n map)
 
--- the map after all blocks of the owners from low to high were freed
+-- "and frees them": the map after all blocks of the owners from low to high were freed
 unfoldable pub released : ℕ → ℕ → List ℕ → List ℕ
 released low high [] = []
 released low high (o ∷ map) = pick (leb low o && leb o high) free o ∷ released low high map

@@ -1,5 +1,5 @@
--- The pool's bytes: the map and the pool are gone through side by side, a block at a time, so no definition computes an index. Each
--- is total: where the pool ends early, a block is the bytes that are there. Assumes nothing.
+-- The pool's bytes. Document 01, "Messages". The map and the pool are gone through side by side, a block at a time, so no definition computes an
+-- index. Each is total: where the pool ends early, a block is the bytes that are there. Assumes nothing.
 use Prim.Native.Nat.{ℕ, zero, suc, _-_, _*_}
 use mathlib.Core.List.{List, [], _∷_, _++_}
 use lib.Dec.{eqb}
@@ -7,7 +7,7 @@ use lib.ListN.{take, drop}
 use Rattle.numbers.specs.Bytes.{pick, part}
 use Rattle.blocks.specs.Map.{blockSize}
 
--- the bytes of an owner's blocks, in rising order
+-- "following its blocks one after another": the bytes of an owner's blocks, in rising order
 unfoldable pub blockBytes : ℕ → List ℕ → List ℕ → List ℕ
 blockBytes owner [] pool = []
 blockBytes owner (o ∷ map) pool =
@@ -20,8 +20,9 @@ over zero [] (x ∷ l) = x ∷ l
 over zero (y ∷ s) (x ∷ l) = y ∷ over zero s l
 over (suc at) s (x ∷ l) = x ∷ over at s l
 
--- the pool with the bytes s put over an owner's blocks, behind their first `at` bytes, as far as its blocks go. A block takes what
--- falls on it; the next one begins `blockSize` bytes on (`at - blockSize`, or past the bytes that this one took).
+-- "Its payload goes to the message's blocks, right behind the bytes already there; no other pool byte changes.": the pool with the bytes s put over an
+-- owner's blocks, behind their first `at` bytes, as far as its blocks go. A block takes what falls on it; the next one begins `blockSize` bytes on
+-- (`at - blockSize`, or past the bytes that this one took).
 unfoldable pub appended : ℕ → ℕ → List ℕ → List ℕ → List ℕ → List ℕ
 appended owner at s [] pool = pool
 appended owner at s (o ∷ map) pool =
@@ -33,7 +34,8 @@ appended owner at s (o ∷ map) pool =
 unfoldable pub appendedFrom : ℕ → ℕ → ℕ → List ℕ → List ℕ → List ℕ → List ℕ
 appendedFrom owner b at s map pool = take (blockSize * b) pool ++ appended owner at s (drop b map) (drop (blockSize * b) pool)
 
--- the buffer with the first `due` bytes of an owner's blocks at its front, as far as blocks and buffer go
+-- "writes the message to the front of out .. until no byte is left": the buffer with the first `due` bytes of an owner's blocks at its front, as far as
+-- blocks and buffer go
 unfoldable pub delivered : ℕ → ℕ → List ℕ → List ℕ → List ℕ → List ℕ
 delivered owner due map pool out = over 0 (take due (blockBytes owner map pool)) out
 

@@ -1,5 +1,6 @@
 -- What the C side gets for the answers of the frame reader and the writers: a code, and what is left in the lent bytes.
--- Document 01, "The bench program and the C side". Assumes nothing.
+-- Document 01, "The bench program and the C side": "Our capture adapter is written in C and calls the frame reader and header writer."
+-- Codes and the places of fields are ours, as the C header tells them. Assumes nothing.
 use Prim.Native.Nat.{ℕ, _+_, _*_, _/_, _%_, _^_, _<_}
 use mathlib.Core.Bool.{not}
 use mathlib.Core.List.{List, _∷_, _++_}
@@ -102,7 +103,7 @@ fieldsAfter fields (Short n) = fields
 abbrev pub leftBy : List ℕ → Reading → Left
 leftBy fields r = left (readingCode r) (fieldsAfter fields r)
 
--- what tilambok_read_frame leaves: its code and the fields
+-- "the frame reader": what tilambok_read_frame leaves, its code and the fields
 abbrev pub tilambokReadFrame : List ℕ → List ℕ → Left
 tilambokReadFrame bytes fields = leftBy fields (heard fields (readOf bytes))
 
@@ -110,9 +111,10 @@ tilambokReadFrame bytes fields = leftBy fields (heard fields (readOf bytes))
 abbrev pub coded : Wrote → Left
 coded w = left (writtenCode (w .answer)) (w .out)
 
--- what tilambok_write_header and tilambok_write_frame leave: their code and the out buffer
+-- "and header writer": what tilambok_write_header leaves, its code and the out buffer
 abbrev pub tilambokWriteHeader : Header → List ℕ → Left
 tilambokWriteHeader h out = coded (writeHeaderOf h out)
 
+-- the same of tilambok_write_frame, which is ours: the whole frame
 abbrev pub tilambokWriteFrame : Header → List ℕ → List ℕ → Left
 tilambokWriteFrame h payload out = coded (writeOf h payload out)

@@ -13,7 +13,7 @@ use Rattle.frame.specs.declared.Extent.{Extent}
 use Rattle.frame.specs.declared.Reading.{Reading}
 use Rattle.frame.specs.declared.Reading.the-variants.{Frame, Refused, Short}
 
--- "Byte 1: version (4 high bits), flag (1), frame type (3 low bits). Then service type, frame info, session id, data size (4 bytes)."
+-- "Byte 1: version (4 high bits), flag (1), frame type (3 low bits). Then service type, frame info, session id, data size (4 bytes)." An info "is kept".
 unfoldable pub frontOf : List ℕ → Header
 frontOf s = record {
   version = getD s 0 0 / 16;
@@ -30,6 +30,7 @@ frontOf s = record {
 unfoldable pub messageOf : List ℕ → ℕ → MessageId
 messageOf s v = pick (eqb v 1) (record { 0 = 0 }) (record { 0 = valueBe (part s 8 4) })
 
+-- the header with the message id, which `frontOf` does not read
 abbrev pub withMessage : Header → MessageId → Header
 withMessage h m = record { version = h .version; flag = h .flag; kind = h .kind; service = h .service; info = h .info; session = h .session; size = h .size; message = m }
 
@@ -37,7 +38,7 @@ withMessage h m = record { version = h .version; flag = h .flag; kind = h .kind;
 abbrev pub frameSize : Header → ℕ
 frameSize h = headerSize (h .version) + h .size
 
--- the payload part is what follows the header, and the frame is all that is consumed
+-- "a frame (header, payload part, bytes consumed)": the payload part is what follows the header, and the frame is all that is consumed
 abbrev pub extentOf : Header → Extent
 extentOf h = record { start = headerSize (h .version); end = frameSize h; consumed = frameSize h }
 
@@ -45,6 +46,7 @@ extentOf h = record { start = headerSize (h .version); end = frameSize h; consum
 abbrev pub wholeOf : List ℕ → Header → Reading
 wholeOf s h = unless (leb (frameSize h) (length s)) (Short (frameSize h)) (Frame (withMessage h (messageOf s (h .version))) (extentOf h))
 
--- "8 if fewer than 8 are there, else header plus data size. Refusals 1 to 6 need 8 bytes and come before the second Short."
+-- "The reader looks at the front of the lent bytes": Short is "8 if fewer than 8 are there, else header plus data size. Refusals 1 to 6 need 8 bytes and
+-- come before the second Short."
 unfoldable pub readOf : List ℕ → Reading
 readOf s = unless (leb 8 (length s)) (Short 8) (unless (eqb (faultOf (frontOf s)) 0) (Refused (faultOf (frontOf s))) (wholeOf s (frontOf s)))

@@ -8,6 +8,7 @@ use Rattle.numbers.specs.Bytes.{pick, unless}
 use Rattle.frame.specs.declared.Header.{Header}
 use Rattle.frame.specs.declared.ServiceType.{ServiceType}
 
+-- whether a number is among those of a list
 abbrev pub isIn : ℕ → List ℕ → Bool
 isIn n [] = false
 isIn n (m ∷ ms) = eqb n m || isIn n ms
@@ -20,7 +21,7 @@ knownVersion v = not (eqb v 0) && leb v 5
 unfoldable pub listedService : ServiceType → Bool
 listedService s = isIn (s .0) (0x00 ∷ 0x07 ∷ 0x0A ∷ 0x0B ∷ 0x0F ∷ [])
 
--- 4: "Control infos: 00 to 09, FD, FE, FF"; frames of the other types may carry any info
+-- 4: "Control infos: 00 to 09, FD, FE, FF". "Single and First Frames may carry any info"; a consecutive frame's is its number, judged by its session
 unfoldable pub infoFits : ℕ → ℕ → Bool
 infoFits kind info = not (eqb kind 0) || (leb info 0x09 || leb 0xFD info)
 
@@ -36,7 +37,7 @@ largest v = pick (leb v 2) 1488 131072
 unfoldable pub sizeFits : ℕ → ℕ → ℕ → Bool
 sizeFits v kind size = (not (eqb kind 2) || eqb size 8) && ((not (eqb kind 3) || not (eqb size 0)) && leb size (largest v))
 
--- the lowest of the refusals 1 to 6 that a header earns; 0 if none
+-- the lowest of the refusals 1 to 6 that a header earns; 0 if none. 2: "frame type above 3"
 unfoldable pub faultOf : Header → ℕ
 faultOf h =
     unless (knownVersion (h .version)) 1

@@ -39,7 +39,7 @@ wrote a o = record { answer = a; out = o }
 abbrev pub putOf : List ℕ → List ℕ → Wrote
 putOf bytes out = unless (leb (length bytes) (length out)) (wrote (Refused 11) out) (wrote (Bytes (length bytes)) (laid bytes out))
 
--- the header alone: 1 to 6, then 11
+-- the "header writer" of the C side, which has no payload to compare with: 1 to 6, then 11
 unfoldable pub writeHeaderOf : Header → List ℕ → Wrote
 writeHeaderOf h out = unless (eqb (faultOf h) 0) (wrote (Refused (faultOf h)) out) (putOf (headerBytes h) out)
 

@@ -28,7 +28,7 @@ use Rattle.headunit.specs.declared.Created.{Created}
 use Rattle.headunit.specs.declared.Wished.{Wished}
 use Rattle.headunit.specs.declared.Wished.the-variants as wished
 
--- creation: 10 for settings out of range
+-- creation. 10: "settings .. out of range"
 unfoldable pub creationOf : Version → ℕ → Created
 creationOf v mtu = record { refused = unless (settingsFit v mtu) 10 0; link = createdLink v mtu }
 

@@ -1,4 +1,5 @@
--- Decimal text: the digits of a number, most significant first, and the number that digits say. Assumes nothing.
+-- Decimal text: the digits of a number, most significant first, and the number that digits say. Document 01 has it in version strings and in the bench's
+-- output. Assumes nothing.
 use Prim.Native.Nat.{ℕ, zero, suc, _+_, _-_, _*_, _/_, _%_, _^_}
 use mathlib.Core.List.{List, [], _∷_, _++_}
 use mathlib.Core.Bool.{Bool, not, _||_}

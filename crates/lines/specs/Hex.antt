@@ -1,5 +1,5 @@
--- Hexadecimal text: two characters a byte, the upper half first. Digits of either case are read, lower-case ones are written.
--- Assumes nothing.
+-- Hexadecimal text: two characters a byte, the upper half first. Document 01, "The bench program and the C side": "Digits in either case,
+-- written in lower". Assumes nothing.
 use Prim.Native.Nat.{ℕ, _+_, _-_, _*_, _/_, _%_, _<_}
 use mathlib.Core.List.{List, [], _∷_}
 use mathlib.Core.Bool.{Bool, not, _||_}
@@ -10,7 +10,7 @@ use Rattle.numbers.specs.Bytes.{pick, laid}
 use Rattle.lines.specs.declared.Decoded.{Decoded}
 use Rattle.lines.specs.declared.Decoded.the-variants.{Bytes, Odd, NotHex, Full}
 
--- the value of a digit: '0' to '9', 'a' to 'f', 'A' to 'F'; 16 for any other character
+-- "Digits in either case": the value of '0' to '9', 'a' to 'f', 'A' to 'F'; 16 for any other character
 unfoldable pub digitOf : ℕ → ℕ
 digitOf b =
     pick (between 48 57 b) (b - 48)
@@ -21,7 +21,7 @@ digitOf b =
 abbrev pub isHex : ℕ → Bool
 isHex b = ltb (digitOf b) 16
 
--- whether a character is one of '0' to '9', 'a' to 'f'
+-- whether a character is one of '0' to '9', 'a' to 'f': the driver reads no others (ours)
 unfoldable pub isLowerHex : ℕ → Bool
 isLowerHex b = between 48 57 b || between 97 102 b
 
@@ -47,7 +47,7 @@ decodeOf text out =
     (pick (ltb (length out) (length text / 2)) (decoded Full out)
     (decoded (Bytes (length text / 2)) (laid (bytesOf text) out))))
 
--- the lower-case digit of a value below 16
+-- "written in lower": the digit of a value below 16
 unfoldable pub letterOf : ℕ → ℕ
 letterOf v = pick (ltb v 10) (48 + v) (87 + v)
 

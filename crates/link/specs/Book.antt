@@ -150,6 +150,7 @@ unfoldable pub lowestIn : Book → ℕ → ℕ → ℕ
 lowestIn b zero k = 0
 lowestIn b (suc n) k = pick (there (b k)) (lowestIn b n (suc k)) k
 
+-- "its offer's G and C"
 abbrev pub newPage : Grant → Page
 newPage g = record { guarantee = g .guarantee; cap = g .cap; notes = replicate 5 noNote }
 
@@ -171,7 +172,7 @@ needsIn (n ∷ ns) = n .need + needsIn ns
 abbrev pub needsOf : Page → ℕ
 needsOf p = needsIn (p .notes)
 
--- "An accepted First Frame enters a message"
+-- "An accepted First Frame enters a message under session, service and message id: need, count, no bytes."
 abbrev pub entered : Page → ℕ → ℕ → ℕ → ℕ → Page
 entered p place id total count = withNote p place (record { live = true; id = id; need = needOf total; count = count; came = 0; bytes = [] })
 
@@ -201,7 +202,7 @@ abbrev pub pageAfterIf : Option Page → Ask → Answer → Option Page
 pageAfterIf none q a = none
 pageAfterIf (some p) q a = pageAfter p q a
 
--- the book after a call; "Any other call changes nothing."
+-- the book after a call: "An opening's ACK enters a session"; "Any other call changes nothing."
 abbrev pub noted : Book → Grant → Answer → Seen → Book
 noted b g a opening = pick (isAck a) (written b (lowestIn b 255 1) (some (newPage g))) b
 noted b g a (within i q) = written b i (pageAfterIf (b i) q a)
@@ -251,7 +252,7 @@ endsRpc (within i (end place)) = eqb place 1
 endsRpc (within i other) = false
 endsRpc nothing = false
 
--- a session's closing: an End's ACK for 07
+-- "for 07, the session and all its messages: its closing"
 abbrev pub closes : Command → Answer → Bool
 closes (call q) a = isAck a && endsRpc (seenOf (q .input))
 

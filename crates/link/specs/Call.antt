@@ -61,7 +61,7 @@ abbrev pub wishOfText : VersionText → Wish
 wishOfText (text.Good v) = pick (ltb (v .major) 5) old (new v)
 wishOfText text.Bad = bad
 
--- "or no protocolVersion"; "an unreadable payload"
+-- "or no protocolVersion"; "an unreadable payload": "On service frames 30 to 34 lead to the NAKs above."
 abbrev pub wishOfPayload : List ℕ → Payload → Wish
 wishOfPayload p (payload.Accepted t) = unless (t .version .found) old (wishOfText (versionOf (part p (t .version .at) (t .version .length))))
 wishOfPayload p (payload.Refused n) = bad
@@ -87,13 +87,15 @@ module _ (l : Link) (p o : List ℕ) (consumed : ℕ) (g : Grant) where
   abbrev pub notOpened : List ℕ → After
   notOpened payload = let bytes = openingNak (l .version .major) payload in after (answer.Nacked consumed (length bytes)) l p (laid bytes o)
 
-  -- the session's row in the first free place, and the ACK
+  -- the session's row in the first free place, and the ACK: "A new one gets the lowest id from 1 to 255 that isn't open."
   abbrev pub opened : ℕ → List ℕ → After
   opened version bytes =
       after (answer.Acked consumed (length bytes))
       (withRow l (indexOf 0 (l .rows)) (openedRow (record { 0 = lowestFree 255 1 (l .rows) }) (g .guarantee) (g .cap) version (g .hash)))
       p (laid bytes o)
 
+  -- bad: "a NAK with rejectedParams ["protocolVersion"]"; "then, with any M, no free row, or a state rule broken by G, gets a NAK of data size 0"; old: "reply
+  -- ACK with header version min(M, 4)"; new: "Otherwise settle on the lesser of both versions"
   abbrev pub openingBy : Wish → After
   openingBy bad = notOpened (nakPayload protocolVersion)
   openingBy old = unless (admits (l .rows) g) (notOpened []) (opened (oldVersion (l .version .major)) (oldAck (l .version .major) (lowestFree 255 1 (l .rows)) (g .hash)))
@@ -101,7 +103,7 @@ module _ (l : Link) (p o : List ℕ) (consumed : ℕ) (g : Grant) where
 
 -- ---- in a session
 
--- what a control frame's payload says of a hash: "(version 5: hashId; below: exactly 4 raw bytes)"
+-- what a control frame's payload says of a hash: "(version 5: hashId; below: exactly 4 raw bytes)". Below 5 any payload is readable
 abbrev pub saidBy : Payload → Said
 saidBy (payload.Accepted t) = record { readable = true; found = t .hash .found; hash = t .hash .value }
 saidBy (payload.Refused n) = record { readable = false; found = false; hash = 0 }
@@ -109,7 +111,7 @@ saidBy (payload.Refused n) = record { readable = false; found = false; hash = 0 
 unfoldable pub saidOf : Row → List ℕ → Said
 saidOf r p = pick (eqb (r .version) 5) (saidBy (payloadOf p)) (record { readable = true; found = eqb (length p) 4; hash = valueBe (part p 0 4) })
 
--- the decision on a frame of row i: 13 to 17, then a control frame or content
+-- the decision on a frame of row i: 13 to 17, then a control frame or content; of a First Frame's payload "total, then count"
 unfoldable pub decisionOf : Link → ℕ → Header → List ℕ → ℕ → Act
 decisionOf l i h payload room =
     let r = getD (l .rows) i noRow in
@@ -134,19 +136,22 @@ module _ (l : Link) (i : ℕ) (p o : List ℕ) (h : Header) (consumed : ℕ) (pa
   abbrev freedAfter : Act → Link
   freedAfter act = withOwners (linkAfter act) (released owner owner (l .owners))
 
-  -- the pool with the payload behind the bytes that are there
+  -- "Its payload goes to the message's blocks, right behind the bytes already there"
   abbrev poolAfter : List ℕ
   poolAfter =
       let m = messageAt row (placeOf (h .service .0)) in
       appended owner (m .total - m .missing) payload (l .owners) p
 
-  -- "Replies carry its id and version"
+  -- "Replies carry its id and version (unsettled: min(M, 4))."
   abbrev reply : ℕ → ℕ → List ℕ → List ℕ
   reply info message bytes = replyBytes (replyVersion (l .version .major) row) (h .service) info (row .id .0) message bytes
 
   abbrev replied : (ℕ → ℕ → Answer) → Link → List ℕ → After
   replied kind after-link bytes = after (kind consumed (length bytes)) after-link p (laid bytes o)
 
+  -- what a decision leaves. "NAKs, and Heartbeat ACKs (size 0, not counted), have message id 0."; an ACK has its session's next number. A First Frame
+  -- "takes the lowest free blocks in rising order and writes nothing". "The last frame writes the message to the front of out .. and frees them. A single
+  -- frame delivers its payload likewise. Bytes of out past those written stay." All refusals "leave everything unchanged but 24, 25"
   abbrev pub applied : Act → After
   applied (Refuse n) = after (answer.Refused n) l p o
   applied (Drop n) = after (answer.Refused n) (freedAfter (Drop n)) p o
@@ -167,7 +172,7 @@ module _ (l : Link) (i : ℕ) (p o : List ℕ) (h : Header) (consumed : ℕ) (pa
 
 -- ---- the call
 
--- a frame: 11 "out under 128 bytes", the opening, 12 "session not open (0 never is; opening excepted)", then its session's row
+-- a frame: 11 "out under 128 bytes", the opening, which "skips 12 to 17", 12 "session not open (0 never is; opening excepted)", then its session's row
 unfoldable pub frameOf : Link → List ℕ → List ℕ → List ℕ → Header → Extent → Grant → After
 frameOf l p s o h e g =
     let payload = part s (e .start) (e .end - e .start) in
@@ -177,11 +182,12 @@ frameOf l p s o h e g =
     (applied l (indexOf (h .session .0) (l .rows)) p o h (e .consumed) payload g
     (decisionOf l (indexOf (h .session .0) (l .rows)) h payload (length o)))))
 
+-- "The link takes the one frame at the front, .. and ignores what follows."
 abbrev pub readingOf : Link → List ℕ → List ℕ → List ℕ → Grant → Reading → After
 readingOf l p s o g (reading.Short n) = after (answer.Short n) l p o
 readingOf l p s o g (reading.Refused n) = after (answer.Refused n) l p o
 readingOf l p s o g (reading.Frame h e) = frameOf l p s o h e g
 
--- the call: link, pool, input, out, offer
+-- "Each call brings the link state, the pool .., the input, an out buffer, and an offer"
 unfoldable pub callOf : Link → List ℕ → List ℕ → List ℕ → Grant → After
 callOf l p s o g = unless (guardOf l (length p) g) (after (answer.Refused 10) l p o) (readingOf l p s o g (readOf s))

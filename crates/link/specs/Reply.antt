@@ -29,7 +29,7 @@ replyHeader version service info session size message = record {
 abbrev pub replyBytes : ℕ → ServiceType → ℕ → ℕ → ℕ → List ℕ → List ℕ
 replyBytes version service info session message payload = frameBytes (replyHeader version service info session (length payload) message) payload
 
--- the infos of replies: Start Service ACK and NAK, End Service ACK and NAK, Heartbeat ACK
+-- the infos of replies, from document 000's table: Start Service ACK and NAK, End Service ACK and NAK, Heartbeat ACK
 abbrev pub startAck : ℕ
 startAck = 0x02
 

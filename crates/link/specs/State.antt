@@ -22,7 +22,7 @@ unfoldable pub indexOf : ℕ → List Row → ℕ
 indexOf i [] = 0
 indexOf i (r ∷ rs) = pick (eqb (r .id .0) i) 0 (suc (indexOf i rs))
 
--- the owner of the blocks of row i's message at a place
+-- the owner of the blocks of row i's message at a place: the number that the block map "records" (ours)
 unfoldable pub ownerOf : ℕ → ℕ → ℕ
 ownerOf i place = 1 + (i * 5 + place)
 
@@ -36,7 +36,7 @@ abbrev pub allFrom : {A : Type 0} → ℕ → (ℕ → A → Bool) → List A �
 allFrom n test [] = true
 allFrom n test (a ∷ l) = test n a && allFrom (suc n) test l
 
--- the sum over sessions of the larger of held and G
+-- "the sum over sessions of the larger of held and G"
 unfoldable pub sharesIn : List Row → ℕ
 sharesIn [] = 0
 sharesIn (r ∷ rs) = shareOf r + sharesIn rs
@@ -81,13 +81,14 @@ blocksFit owners i r =
 unfoldable pub freeFits : Row → Bool
 freeFits r = eqb (r .guarantee) 0 && (eqb (r .cap) 0 && all (λ (m : Reassembly). not (m .live)) (r .messages))
 
+-- the rules of one row. "and 07 runs" needs no test: 07 of an open row always runs (`isRunning`)
 unfoldable pub rowFits : ℕ → List ℕ → ℕ → Row → Bool
 rowFits major owners i r =
     blocksFit owners i r
     && pick (eqb (r .id .0) 0) (freeFits r)
     (roomFits r && (versionAllowed major (r .version) && (unsettledFits r && allFrom 0 (messageFits r) (r .messages))))
 
--- the state rules, in document 01's order
+-- "State rules": ids, what holds of each row, the sum; and held and free blocks make 256, so that a block held by no open message breaks them (ours)
 unfoldable pub rulesHold : Link → Bool
 rulesHold l =
     distinctIds (l .rows)
@@ -95,7 +96,7 @@ rulesHold l =
     && (leb (sharesIn (l .rows)) 256
     && eqb (heldByAll 1 40 (l .owners) + freeIn (l .owners)) 256))
 
--- "Created with a module version M.m.p (M 1 to 5 ..) and an mtu from 1,500 to 131,084"
+-- "Created with a module version M.m.p (M 1 to 5, others 0 to 255) and an mtu from 1,500 to 131,084"; the others are bytes by their type
 unfoldable pub settingsFit : Version → ℕ → Bool
 settingsFit v mtu = leb 1 (v .major) && (leb (v .major) 5 && (leb 1500 mtu && leb mtu 131084))
 
@@ -107,7 +108,7 @@ grantFits g = leb (g .guarantee) (g .cap) && leb (g .cap) 256
 unfoldable pub guardOf : Link → ℕ → Grant → Bool
 guardOf l pool g = eqb pool 65536 && (settingsFit (l .version) (l .mtu) && (grantFits g && rulesHold l))
 
--- creation: no session, every block free
+-- creation: no session, every block free. "At most 8 sessions."
 abbrev pub createdLink : Version → ℕ → Link
 createdLink v mtu = record { version = v; mtu = mtu; rows = replicate 8 freeRow; owners = freeMap }
 

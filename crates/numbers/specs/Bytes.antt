@@ -26,7 +26,7 @@ AreBytes (b ∷ bs) = (b < 256) × AreBytes bs
 abbrev pub part : List ℕ → ℕ → ℕ → List ℕ
 part s at w = take w (drop at s)
 
--- the bytes to the front of a buffer; what is past them stays
+-- the bytes to the front of a buffer: "Bytes of out past those written stay."
 abbrev pub laid : List ℕ → List ℕ → List ℕ
 laid bytes out = bytes ++ drop (length bytes) out
 

@@ -5,7 +5,7 @@ use Prim.Native.Nat.{ℕ, zero, suc, _+_, _*_, _/_, _%_, _^_, _<_}
 use mathlib.Core.List.{List, [], _∷_, reverse}
 use mathlib.Core.Path.{_≡_}
 
--- the number whose bytes are bs, least significant first
+-- the number whose bytes are bs, least significant first, as in BSON
 unfoldable pub valueLe : List ℕ → ℕ
 valueLe [] = 0
 valueLe (b ∷ bs) = b + 256 * valueLe bs
@@ -15,7 +15,7 @@ unfoldable pub bytesLe : ℕ → ℕ → List ℕ
 bytesLe zero n = []
 bytesLe (suc w) n = (n % 256) ∷ bytesLe w (n / 256)
 
--- most significant first
+-- the same, most significant first, as in headers
 unfoldable pub valueBe : List ℕ → ℕ
 valueBe bs = valueLe (reverse bs)
 

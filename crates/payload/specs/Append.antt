@@ -1,4 +1,4 @@
--- What the writers of this crate leave. Assumes nothing.
+-- What the writers of this crate leave. 11 is document 01's. Assumes nothing.
 use Prim.Native.Nat.{ℕ, _+_}
 use mathlib.Core.Path.{_≡_}
 use mathlib.Core.List.{List, _++_}
@@ -25,6 +25,6 @@ pub record Wrote : Type 0 where
 abbrev pub wrote : Written → List ℕ → Wrote
 wrote a o = record { answer = a; out = o }
 
--- the bytes to the front of the buffer; 11, and nothing, where it is too small
+-- the bytes to the front of the buffer; 11, and nothing, where it is "too small for the bytes due"
 abbrev pub putOf : List ℕ → List ℕ → Wrote
 putOf bytes out = unless (leb (length bytes) (length out)) (wrote (Refused 11) out) (wrote (Bytes (length bytes)) (laid bytes out))

@@ -1,4 +1,5 @@
--- The control payloads that the module writes, in bsonspec.org's grammar; BSON's numbers are least significant first. Assumes nothing.
+-- The control payloads that the module writes, in bsonspec.org's grammar; BSON's numbers are least significant first. Document 01: "We write only
+-- the reply payloads above." Assumes nothing.
 use Prim.Native.Nat.{ℕ, _+_}
 use mathlib.Core.Bool.{true, false}
 use mathlib.Core.List.{List, [], _∷_, _++_}
@@ -11,7 +12,7 @@ use Rattle.payload.specs.declared.reply.Parameter.the-variants.{Protocol
 use Rattle.payload.specs.Tags.{protocolVersion, hashId, mtu, rejectedParams, noTags}
 use Rattle.payload.specs.Version.{versionText}
 
--- the first key of an array, "0"
+-- the first key of an array: "(written 0, 1, ...)"
 abbrev pub firstKey : List ℕ
 firstKey = 48 ∷ []
 
@@ -59,6 +60,7 @@ serviceAckPayload h m = document (grantElements h m)
 unfoldable pub nakPayload : List ℕ → List ℕ
 nakPayload name = document (rejectedElement name)
 
+-- the names: ["protocolVersion"] and ["hashId"]
 abbrev pub nameOf : Parameter → List ℕ
 nameOf ProtocolVersion = protocolVersion
 nameOf HashId = hashId

@@ -37,7 +37,7 @@ mtu = 0x6D ∷ 0x74 ∷ 0x75 ∷ []
 abbrev pub rejectedParams : List ℕ
 rejectedParams = 0x72 ∷ 0x65 ∷ 0x6A ∷ 0x65 ∷ 0x63 ∷ 0x74 ∷ 0x65 ∷ 0x64 ∷ 0x50 ∷ 0x61 ∷ 0x72 ∷ 0x61 ∷ 0x6D ∷ 0x73 ∷ []
 
--- the tag that a key names
+-- the tag that a key names; "Others, height included, are unknown"
 unfoldable pub tagOf : List ℕ → Tag
 tagOf key =
     pick (sameBytes key protocolVersion) ProtocolVersion
@@ -79,14 +79,14 @@ noTags = record {
 abbrev pub stringAt : List ℕ → ℕ → StringTag
 stringAt s v = record { found = true; at = v + 4; length = valueLe (part s v 4) - 1 }
 
--- "BSON numbers least significant first": a hash id as its 32 bits, an mtu as its 64 bits
+-- "BSON numbers least significant first": a hash id as its 32 bits ("An int32 hashId is the hash's same 32 bits."), an mtu as its 64 bits
 abbrev pub hashAt : List ℕ → ℕ → HashTag
 hashAt s v = record { found = true; value = valueLe (part s v 4) }
 
 abbrev pub mtuAt : List ℕ → ℕ → MtuTag
 mtuAt s v = record { found = true; value = valueLe (part s v 8) }
 
--- the tags with one more, whose value starts at v
+-- the tags with one more, whose value starts at v; unknown ones "are skipped"
 abbrev pub withTag : List ℕ → Tags → Tag → ℕ → Tags
 withTag s t Unknown v = t
 withTag s t ProtocolVersion v = record { version = stringAt s v; hash = t .hash; mtu = t .mtu; rejected = t .rejected }

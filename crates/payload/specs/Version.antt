@@ -24,7 +24,7 @@ beforeDot text = take (indexOf 46 text) text
 abbrev pub afterDot : List ℕ → List ℕ
 afterDot text = drop (indexOf 46 text + 1) text
 
--- a zero in front of other characters
+-- "no spare zeros": a zero in front of other characters
 abbrev pub spareZero : List ℕ → Bool
 spareZero text = leb 2 (length text) && eqb (getD text 0 0) 48
 
@@ -42,11 +42,11 @@ partOf text = pick (spareZero text) 256 (partValue (numberOf text))
 unfoldable pub versionFrom : ℕ → ℕ → ℕ → VersionText
 versionFrom a b c = unless (not (eqb a 0) && (leb a 255 && (leb b 255 && leb c 255))) Bad (Good (version a b c))
 
--- the version that a text says
+-- the version that a text says; a fourth part stays in the third, which is then no number
 unfoldable pub versionOf : List ℕ → VersionText
 versionOf text = versionFrom (partOf (beforeDot text)) (partOf (beforeDot (afterDot text))) (partOf (afterDot (afterDot text)))
 
--- the string of a version, whatever its numbers
+-- "protocolVersion (string)": the string of a version, whatever its numbers
 unfoldable pub versionText : Version → List ℕ
 versionText v = decimalOf (v .major) ++ (46 ∷ (decimalOf (v .minor) ++ (46 ∷ decimalOf (v .patch))))
 

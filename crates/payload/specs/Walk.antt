@@ -29,15 +29,15 @@ abbrev pub readType : ℕ → Bool
 readType kind =
     eqb kind 0x01 || (eqb kind 0x02 || (eqb kind 0x03 || (eqb kind 0x04 || (eqb kind 0x08 || (eqb kind 0x0A || (eqb kind 0x10 || eqb kind 0x12))))))
 
--- the types whose value is a document: 03, and 04, an array
+-- the types whose value is a document: 03, and 04, an array; "documents and arrays nested inside each other"
 abbrev pub nests : ℕ → Bool
 nests kind = eqb kind 0x03 || eqb kind 0x04
 
--- a value of w bytes, which starts at v, in a document that ends at end: the place past it
+-- a value of w bytes, which starts at v, in a document that ends at end: the place past it. 32: "value .. runs past its document"
 unfoldable pub fixedOf : ℕ → ℕ → ℕ → Skip
 fixedOf w v end = pick (leb w (end - v)) (To (v + w)) Wrong
 
--- 08, a boolean: one byte, 0 or 1
+-- 08, one byte. 32: "boolean not 0 or 1"
 unfoldable pub booleanOf : List ℕ → ℕ → ℕ → Skip
 booleanOf s v end = pick (ltb v end && ltb (getD s v 0) 2) (To (v + 1)) Wrong
 
@@ -69,7 +69,8 @@ tagAt false s key stop = Unknown
 abbrev pub keyStop : List ℕ → ℕ → ℕ → ℕ
 keyStop s at end = at + 1 + indexOf 0 (slice (at + 1) end s)
 
--- what stands before an element's value: its type, its tag and the value's place. "an element is judged by type, key, 34, then value"
+-- what stands before an element's value: its type, its tag and the value's place. "an element is judged by type, key, 34, then value": 31 "type not read",
+-- 32 "key .. runs past its document", 34
 unfoldable pub headOf : Bool → List ℕ → ℕ → ℕ → Tags → Head
 headOf top s at end t =
     unless (readType (getD s at 0)) (Bad 31)

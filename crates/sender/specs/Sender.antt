@@ -32,7 +32,7 @@ pub record Planned : Type 0 where
   pub header : Header
   pub payload : List ℕ
 
--- our sender sets no flag
+-- a header of our sender, which sets no flag: encrypted content is "left to others"
 abbrev pub headerFor : Outgoing → ℕ → ℕ → ℕ → Header
 headerFor o kind info size = record {
   version = o .version;
@@ -45,14 +45,15 @@ headerFor o kind info size = record {
   message = o .message;
 }
 
+-- a frame of so large a data size as its payload has bytes
 abbrev pub plan : Outgoing → ℕ → ℕ → List ℕ → Planned
 plan o kind info payload = record { header = headerFor o kind info (length payload); payload = payload }
 
--- "a single frame": our sender writes info 0
+-- "a single frame"; of its info, "our sender writes 0"
 abbrev pub singleOf : Outgoing → List ℕ → Planned
 singleOf o m = plan o 1 0 m
 
--- "A First Frame (total, then count)"
+-- "A First Frame (total, then count)"; of its info, "our sender writes 0"
 abbrev pub firstOf : Outgoing → List ℕ → Planned
 firstOf o m = plan o 2 0 (bytesBe 4 (length m) ++ bytesBe 4 (countOf o m))
 
@@ -68,6 +69,7 @@ nextOf o m k = plan o 3 (frameNumber k (countOf o m)) (chunkOf o m k)
 unfoldable pub frameAt : Outgoing → List ℕ → ℕ → Planned
 frameAt o m k = pick (fitsOne o m) (singleOf o m) (pick (eqb k 0) (firstOf o m) (nextOf o m k))
 
+-- the last k that has a frame
 unfoldable pub lastPlace : Outgoing → List ℕ → ℕ
 lastPlace o m = pick (fitsOne o m) 0 (countOf o m)
 
