@@ -5,12 +5,18 @@ use mathlib.Core.Path.{_≡_, refl, ap, sym, _∙_}
 use mathlib.Core.List.{List, [], _∷_, _++_, append-assoc}
 use native.Mathlib.Omega.{arith}
 use lib.ListN.{length, getD, take, drop, set, length-append}
-use lib.Seq.{drop-at, length-take-le}
+use lib.Seq.{drop-at, length-take-le, take-take}
+use borrow.Author.Tests.{eq-eqb, ne-eqb}
 use Rattle.numbers.specs.Bytes.{part, pick, putAt, laid}
 use Rattle.numbers.specs.Numbers.{bytesBe, valueBe}
 use Rattle.numbers.proofs.Laws.{length-be, put-fits}
 use Rattle.frame.specs.declared.Header.{Header}
-use Rattle.frame.specs.Read.{frontOf, withMessage}
+use Rattle.frame.specs.declared.Extent.{Extent}
+use Rattle.frame.specs.declared.MessageId.{MessageId}
+use Rattle.frame.specs.declared.Reading.the-variants.{Frame}
+use Rattle.frame.specs.Rules.{headerSize}
+use Rattle.frame.specs.Read.{frontOf, messageOf, withMessage, readOf}
+use Rattle.frame.proofs.Answers.{is-frame}
 use Rattle.frame.proofs.Buffers.{four-stored, pasted}
 use Rattle.capture.specs.Capture.{fieldBytes}
 
@@ -62,3 +68,28 @@ fields-put s h start b n o p q e f g l lp lq u v =
     = rw (f, service, info, session, size) in
     all-put (h .version) b (h .kind) (getD s 1 0) (getD s 2 0) (getD s 3 0) start 0 (bytesBe 4 n) (bytesBe 4 (h .message .0)) o p q (length-be 4 n) (length-be 4 (h .message .0)) l lp lq u v
     ∙ ap (λ (t : List ℕ). laid t o) same
+
+-- ---- the message id, as it stands in the frame
+
+module _ (s : List ℕ) (v : ℕ) (m : MessageId) (is : m ≡ messageOf s v) where
+  pub message-none : v ≡ 1 → 0 ≡ m .0
+  unfolding messageOf
+  message-none e = let none : messageOf s v ≡ record { 0 = 0 } = rw (eq-eqb v 1 e) in sym (ap (λ (x : MessageId). x .0) (is ∙ none))
+
+  -- the four bytes were lent alone
+  pub message-there : (v ≡ 1 → ⊥) → valueBe (part (part s 8 4) 0 4) ≡ m .0
+  unfolding messageOf
+  message-there n =
+      let all = take-take 4 4 (drop 8 s) (omega arith) in
+      let there : messageOf s v ≡ record { 0 = valueBe (part s 8 4) } = rw (ne-eqb v 1 n) in
+      ap valueBe all ∙ sym (ap (λ (x : MessageId). x .0) (is ∙ there))
+
+-- what the reader says of a frame's header
+pub header-there : (s : List ℕ) (h : Header) (e : Extent) → readOf s ≡ Frame h e → (headerSize (h .version) ≤ length s) × (h ≡ withMessage (frontOf s) (messageOf s (h .version)))
+header-there s h e p =
+    let f = is-frame s h e p in
+    let v : h .version ≡ frontOf s .version = ap (λ (k : Header). k .version) (f .header) in
+    (rw v (omega (arith, f .there)), f .header ∙ ap (λ (n : ℕ). withMessage (frontOf s) (messageOf s n)) (sym v))
+
+pub header-own : (s : List ℕ) (h : Header) → h ≡ withMessage (frontOf s) (messageOf s (h .version)) → h ≡ withMessage (frontOf s) (h .message)
+header-own s h q = q ∙ ap (withMessage (frontOf s)) (sym (ap (λ (k : Header). k .message) q))

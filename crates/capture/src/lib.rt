@@ -4,8 +4,10 @@
 ghost use mathlib.Core.Path.{_≡_};
 ghost use Prim.Native.Nat.{_^_, _≤_, _<_};
 ghost use lib.ListN.{length};
-ghost use Rattle.numbers.specs.Bytes.{pick, laid};
-ghost use Rattle.frame.specs.Read.{frontOf, withMessage};
+ghost use Rattle.numbers.specs.Bytes.{pick, laid, putAt};
+ghost use Rattle.numbers.specs.Numbers.{bytesBe};
+ghost use Rattle.frame.specs.Rules.{headerSize};
+ghost use Rattle.frame.specs.Read.{frontOf, messageOf, withMessage};
 ghost use Rattle.capture.specs.Capture.{code, readingCode, writtenCode, ReadingFits, WrittenFits, fieldBytes, headerFrom, left, tilambokReadFrame, tilambokWriteHeader, tilambokWriteFrame};
 use frame::Header;
 use frame::MessageId;
@@ -59,13 +61,25 @@ fn flag_byte(flag: bool) -> u8
     if flag { 1 } else { 0 }
 }
 
+// The message id's four bytes as they stand in the frame, or 0 where it has none.
+fn put_message(bytes: &[u8], header: Header, fields: &mut [u8])
+    requires { ⌜ (headerSize (header .version) ≤ length (now bytes)) × (header .message ≡ messageOf (now bytes) (header .version)) ⌝ }
+    ensures { λ _. ⌜ now (fields .exit) ≡ putAt (now (fields .entry)) 12 4 (bytesBe 4 (header .message .0)) ⌝ }
+{
+    if header.version == 1 {
+        numbers::put_be4(fields, 12, 0);
+        return;
+    }
+    numbers::put_be4(fields, 12, numbers::be4(&bytes[8..12], 0));
+}
+
 // The fields of a frame whose payload starts at start, to the front of fields. What is in the bytes as it stands is copied from them and not from the
-// header, and the numbers come first: so the compiler stores each number at once and keeps no byte of the header for it.
+// header, and the numbers come first: so the compiler moves each number at once, turns none around and keeps no byte of the header for it.
 fn put_fields(bytes: &[u8], header: Header, start: u8, fields: &mut [u8])
-    requires { ⌜ (8 ≤ length (now bytes)) × ((16 ≤ length (now fields)) × (header ≡ withMessage (frontOf (now bytes)) (header .message))) ⌝ }
+    requires { ⌜ (8 ≤ length (now bytes)) × ((16 ≤ length (now fields)) × ((headerSize (header .version) ≤ length (now bytes)) × (header ≡ withMessage (frontOf (now bytes)) (messageOf (now bytes) (header .version))))) ⌝ }
     ensures { λ _. ⌜ now (fields .exit) ≡ laid (fieldBytes header start) (now (fields .entry)) ⌝ }
 {
-    numbers::put_be4(fields, 12, header.message.0);
+    put_message(bytes, header, fields);
     numbers::put_be4(fields, 8, numbers::be4(bytes, 4));
     fields[0] = header.version;
     fields[1] = flag_byte(header.flag);

@@ -41,9 +41,6 @@ use Rattle.payload.specs.declared.version.Version.{Version}
 use Rattle.payload.specs.Version.{lesserOf}
 use Rattle.payload.specs.Reply.{serviceAckPayload, nakPayload, nameOf}
 use Rattle.payload.proofs.Replies.{length-nak}
-use Rattle.blocks.specs.Map.{released}
-use Rattle.blocks.specs.Pool.{blockBytes, appended, delivered}
-use Rattle.blocks.proofs.Contents.{deliver-laid}
 use Rattle.session.specs.declared.Reassembly.{Reassembly}
 use Rattle.session.specs.declared.Row.{Row}
 use Rattle.session.specs.declared.Said.{Said}
@@ -51,19 +48,19 @@ use Rattle.session.specs.declared.Act.{Act}
 use Rattle.session.specs.declared.Act.the-variants.{Refuse, Drop, Accept, Beat, Start, NoStart, Stop, Close, NoEnd, Claim, Append, Deliver, Single}
 use Rattle.session.specs.Rules.{replyVersion, barredBy}
 use Rattle.session.specs.Rows.{noRow, openedRow, messageAt}
-use Rattle.session.specs.Decide.{placeOf, needOf, heldOf, firstOf, dueNumber, sized, nextFor, singleOf, startable, startOf, endable, hashOf, endOf, controlOf, contentOf, rowAfter}
+use Rattle.session.specs.Decide.{placeOf, needOf, heldOf, firstOf, dueNumber, sized, nextFor, singleOf, startable, startOf, endable, hashOf, endOf, controlOf, contentOf}
 use Rattle.link.specs.declared.Link.{Link}
 use Rattle.link.specs.declared.Grant.{Grant}
 use Rattle.link.specs.declared.Answer.the-variants as answer
-use Rattle.link.specs.State.{indexOf, lowestFree, ownerOf, versionAllowed, rowFits, rulesHold, settingsFit, grantFits, guardOf, withRow, withOwners}
+use Rattle.link.specs.State.{indexOf, lowestFree, versionAllowed, rowFits, rulesHold, settingsFit, grantFits, guardOf, withRow}
 use Rattle.link.specs.Call.{After, wishOf, opens, opened, openingBy, saidOf, decisionOf, applied, frameOf, callOf}
 use Rattle.link.proofs.Shown.{and-both, rules-say}
 use Rattle.link.proofs.Holdings.{row-fits-at, row-rules}
 use Rattle.link.proofs.Table.{index-row}
 use Rattle.link.specs.Reply.{replyHeader, replyBytes, newAck, grantedPayload}
 use Rattle.link.proofs.Replies.{reply-sound}
-use Rattle.headunit.specs.declared.replies.From.{From}
-use Rattle.headunit.specs.Unit.{Sent, sent, sentOf, countOf, payloadCountOf, Roomy, repliedWith, fromOf, Serves}
+use Rattle.headunit.specs.Unit.{Sent, sent, sentOf, countOf, payloadCountOf, repliedWith, Serves}
+use Rattle.headunit.specs.Steps.{Roomy}
 
 -- the writer's answer as a count and a buffer
 abbrev pub sentBy : Wrote → Sent
@@ -132,35 +129,7 @@ pub granted-old : (v hash mtu : ℕ) → (v ≡ 5 → ⊥) → bytesBe 4 hash �
 unfolding grantedPayload
 granted-old v hash mtu e = rw (ne-eqb v 5 e)
 
--- a delivery: the last payload appended, the message written, its blocks freed
-module _ (l : Link) (i : ℕ) (h : Header) (consumed : ℕ) (payload pool out : List ℕ) (g : Grant) where
-  abbrev at : ℕ → Reassembly
-  at place = messageAt (getD (l .rows) i noRow) place
-
-  -- the same facts give the call's definition, where place is the service's
-  -- x is the owner that the message is written from, `size` the bytes written, `told` those of the answer
-  abbrev Delivers : ℕ → ℕ → ℕ → ℕ → List ℕ → List ℕ → Link → Type 0
-  Delivers place x size told pool′ out′ changed =
-      x ≡ ownerOf i place → pool′ ≡ appended (ownerOf i place) (at place .total - at place .missing) payload (l .owners) pool → out′ ≡ delivered x size (l .owners) pool′ out
-      → size ≡ at place .total → told ≡ at place .total
-      → changed ≡ withOwners (withRow l i (rowAfter (getD (l .rows) i noRow) h 0 Deliver)) (released x x (l .owners)) → at place .total ≤ length out
-      → _≡_ {A = After} (record { answer = answer.Delivered consumed (h .service) told; link = changed; pool = pool′; out = out′ }) (applied l i pool out h consumed payload g Deliver)
-
-  at-place : (x size told : ℕ) (pool′ out′ : List ℕ) (changed : Link) → Delivers (placeOf (h .service .0)) x size told pool′ out′ changed
-  at-place x size told pool′ out′ changed k a d n m c room =
-      let o : out′ ≡ laid (take (at (placeOf (h .service .0)) .total) (blockBytes x (l .owners) pool′)) out
-      = d ∙ ap (λ (due : ℕ). delivered x due (l .owners) pool′ out) n ∙ deliver-laid x (at (placeOf (h .service .0)) .total) (l .owners) pool′ out room in
-      rw (c, o, a, k, m)
-
-  pub delivered-is : (place x size told : ℕ) (pool′ out′ : List ℕ) (changed : Link) → place ≡ placeOf (h .service .0) → Delivers place x size told pool′ out′ changed
-  delivered-is place x size told pool′ out′ changed e = subst (λ (p : ℕ). Delivers p x size told pool′ out′ changed) (sym e) (at-place x size told pool′ out′ changed)
-
 -- ---- what the call's parts need of each other
-
--- what a decision does, by the decision's form
-pub applied-by : (l : Link) (i : ℕ) (p o : List ℕ) (h : Header) (consumed : ℕ) (payload : List ℕ) (g : Grant) (act known : Act) {x : After} → act ≡ known
-    → x ≡ applied l i p o h consumed payload g known → x ≡ applied l i p o h consumed payload g act
-applied-by l i p o h consumed payload g act known e q = q ∙ ap (λ (d : Act). applied l i p o h consumed payload g d) (sym e)
 
 -- out has room for what is decided
 module _ (room size total : ℕ) where
@@ -263,26 +232,6 @@ new-opened l i consumed g wish v id r q n o o′ p at lowest settled row link wr
     let ack : ℕ → Version → Sent = λ k x. sentOf (newAck k (g .hash) (l .mtu) x) o in
     ap (repliedWith answer.Acked consumed q p) (written ∙ ap (λ (x : Version). ack (id .0) x) settled ∙ ap (λ (k : ℕ). ack k (lesserOf (l .version) wish)) lowest)
     ∙ ap (λ (x : Link). repliedWith answer.Acked consumed x p (ack (lowestFree 255 1 (l .rows)) (lesserOf (l .version) wish))) (opened-link l i id r q g 5 5 at lowest refl row link)
-
--- an End's ACK: it carries the number of row i's next ACK
-pub ended : (l : Link) (i : ℕ) (h : Header) (consumed number : ℕ) (f : From) (q c : Link) (n : ℕ) (o o′ p : List ℕ) → f ≡ fromOf l i h → q ≡ c
-    → sent n o′ ≡ sentOf (replyBytes (f .version) (f .service) 0x05 (f .session .0) number []) o → number ≡ getD (l .rows) i noRow .next
-    → repliedWith answer.Acked consumed q p (sent n o′)
-    ≡ repliedWith answer.Acked consumed c p (sentOf (replyBytes (fromOf l i h .version) (h .service) 0x05 (fromOf l i h .session .0) (getD (l .rows) i noRow .next) []) o)
-ended l i h consumed number f q c n o o′ p from changed written counted =
-    ap (repliedWith answer.Acked consumed q p) (written ∙ ap (λ (x : From). sentOf (replyBytes (x .version) (x .service) 0x05 (x .session .0) number []) o) from
-    ∙ ap (λ (k : ℕ). sentOf (replyBytes (fromOf l i h .version) (h .service) 0x05 (fromOf l i h .session .0) k []) o) counted)
-    ∙ ap (λ (x : Link). repliedWith answer.Acked consumed x p (sentOf (replyBytes (fromOf l i h .version) (h .service) 0x05 (fromOf l i h .session .0) (getD (l .rows) i noRow .next) []) o)) changed
-
--- the same of a service's start
-pub started : (l : Link) (i : ℕ) (h : Header) (consumed : ℕ) (g : Grant) (r : Row) (f : From) (q c : Link) (n : ℕ) (o o′ p : List ℕ) → f ≡ fromOf l i h → q ≡ c
-    → sent n o′ ≡ sentOf (replyBytes (f .version) (f .service) 0x02 (f .session .0) (r .next) (grantedPayload (r .version) (g .hash) (l .mtu))) o → r ≡ getD (l .rows) i noRow
-    → repliedWith answer.Acked consumed q p (sent n o′)
-    ≡ repliedWith answer.Acked consumed c p (sentOf (replyBytes (fromOf l i h .version) (h .service) 0x02 (fromOf l i h .session .0) (getD (l .rows) i noRow .next) (grantedPayload (getD (l .rows) i noRow .version) (g .hash) (l .mtu))) o)
-started l i h consumed g r f q c n o o′ p from changed written row =
-    let ack : From → Row → Sent = λ x y. sentOf (replyBytes (x .version) (x .service) 0x02 (x .session .0) (y .next) (grantedPayload (y .version) (g .hash) (l .mtu))) o in
-    ap (repliedWith answer.Acked consumed q p) (written ∙ ap (λ (x : From). ack x r) from ∙ ap (λ (y : Row). ack (fromOf l i h) y) row)
-    ∙ ap (λ (x : Link). repliedWith answer.Acked consumed x p (ack (fromOf l i h) (getD (l .rows) i noRow))) changed
 
 -- Short tells what the reader needs
 pub short-is : (l : Link) (p s o : List ℕ) (g : Grant) (needed : ℕ) → guardOf l (length p) g ≡ true → readOf s ≡ reading.Short needed

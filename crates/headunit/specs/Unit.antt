@@ -14,8 +14,6 @@ use Rattle.frame.specs.declared.Written.the-variants as written
 use Rattle.payload.specs.declared.append.Written as Payload
 use Rattle.payload.specs.declared.append.Written.the-variants as payload
 use Rattle.payload.specs.declared.version.Version.{Version}
-use Rattle.session.specs.declared.Act.{Act}
-use Rattle.session.specs.declared.Act.the-variants.{Refuse, Drop, Accept, Beat, Start, NoStart, Stop, Close, NoEnd, Claim, Append, Deliver, Single}
 use Rattle.session.specs.Rows.{noRow}
 use Rattle.session.specs.Rules.{replyVersion}
 use Rattle.link.specs.declared.Link.{Link}
@@ -62,22 +60,6 @@ abbrev pub wishFrom : Wished → Wish
 wishFrom wished.Old = old
 wishFrom (wished.New v) = new v
 wishFrom wished.Bad = bad
-
--- out has room for what a decision delivers: `payload` bytes of a Single Frame, `total` bytes of a message
-abbrev pub Roomy : ℕ → ℕ → ℕ → Act → Type 0
-Roomy room payload total (Refuse n) = Unit {0}
-Roomy room payload total (Drop n) = Unit {0}
-Roomy room payload total Accept = Unit {0}
-Roomy room payload total Beat = Unit {0}
-Roomy room payload total Start = Unit {0}
-Roomy room payload total NoStart = Unit {0}
-Roomy room payload total Stop = Unit {0}
-Roomy room payload total Close = Unit {0}
-Roomy room payload total (NoEnd named) = Unit {0}
-Roomy room payload total (Claim bytes frames) = Unit {0}
-Roomy room payload total Append = Unit {0}
-Roomy room payload total Deliver = total ≤ room
-Roomy room payload total Single = payload ≤ room
 
 -- a reply as all that a call leaves
 abbrev pub repliedWith : (ℕ → ℕ → Answer) → ℕ → Link → List ℕ → Sent → After

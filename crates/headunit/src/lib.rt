@@ -6,25 +6,23 @@ ghost use mathlib.Core.Path.{_≡_};
 ghost use mathlib.Core.Bool.{true};
 ghost use mathlib.Core.List.{List, []};
 ghost use Prim.Native.Nat.{ℕ, _+_, _-_, _≤_, _<_, min};
-ghost use lib.ListN.{length, getD};
+ghost use lib.ListN.{length, take};
 ghost use Rattle.numbers.specs.Bytes.{unless, part, laid};
 ghost use Rattle.frame.specs.declared.Reading.the-variants.{Frame};
 ghost use Rattle.frame.specs.Read.{readOf};
-ghost use Rattle.frame.specs.Rules.{listedService};
 ghost use Rattle.payload.specs.Tags.{protocolVersion};
 ghost use Rattle.payload.specs.Version.{versionOf, lesserOf};
 ghost use Rattle.payload.specs.Reply.{nakPayload};
-ghost use Rattle.blocks.specs.Map.{claimed, released};
-ghost use Rattle.blocks.specs.Pool.{appended};
-ghost use Rattle.session.specs.Rows.{noRow, messageAt};
-ghost use Rattle.session.specs.Decide.{placeOf, shareOf, rowAfter};
-ghost use Rattle.session.specs.Rules.{replyVersion};
-ghost use Rattle.session.specs.declared.Act.the-variants.{Drop, Beat, Start, NoStart, Stop, Close, NoEnd, Claim, Append, Deliver, Single};
+ghost use Rattle.blocks.specs.Pool.{blockBytes, appended};
+ghost use Rattle.session.specs.Decide.{shareOf};
 ghost use Rattle.link.specs.declared.Grant.{Grant as Offer};
-ghost use Rattle.link.specs.State.{indexOf, ownerOf, sharesIn, guardOf, withRow, withOwners, lowestFree};
+ghost use Rattle.link.specs.declared.Link.{Link as State};
+ghost use Rattle.link.specs.State.{indexOf, ownerOf, sharesIn, guardOf, withRow, lowestFree};
 ghost use Rattle.link.specs.Reply.{oldAck, newAck};
 ghost use Rattle.link.specs.Call.{old, new, wishOfText, wishOf, opens, admits, oldVersion, notOpened, opened, openingBy, saidOf, decisionOf, applied, frameOf, callOf};
-ghost use Rattle.headunit.specs.Unit.{creationOf, leaves, wishFrom, fromOf, Serves, Roomy};
+ghost use Rattle.rules.specs.Parts.{Seen};
+ghost use Rattle.headunit.specs.Unit.{creationOf, leaves, wishFrom, Serves};
+ghost use Rattle.headunit.specs.Steps.{decisionBy, ownersAfter, fromRow, told, toldOf, Repliable, Roomy};
 use blocks::Owner;
 use frame::Extent;
 use frame::Header;
@@ -38,6 +36,7 @@ use payload::StringTag;
 use payload::reply::Parameter;
 use payload::version::Version;
 use replies::From;
+use rules::Overview;
 use session::Act;
 use session::Reassembly;
 use session::Row;
@@ -80,25 +79,6 @@ fn owner(i: usize, place: usize) -> Owner
     Owner((1 + (i * 5 + place)) as u8)
 }
 
-// Row i.
-fn row_at(link: Link, i: usize) -> Row
-    requires { ⌜ i < 8 ⌝ }
-    ensures { λ r. ⌜ r ≡ getD (link .rows) i noRow ⌝ }
-{
-    let rows = link.rows;
-    rows[i]
-}
-
-// Row i after a decision; hash is the offer's.
-fn row_then(link: Link, i: usize, header: Header, hash: u32, act: Act) -> Row
-    requires { ⌜ i < 8 ⌝ }
-    ensures { λ r. ⌜ r ≡ rowAfter (getD (link .rows) i noRow) header hash act ⌝ }
-{
-    let rows = link.rows;
-    let row = rows[i];
-    session::row_after(row, header, hash, act)
-}
-
 // The link with row i as given.
 fn with_row(link: Link, i: usize, row: Row) -> Link
     requires { ⌜ i < 8 ⌝ }
@@ -109,28 +89,27 @@ fn with_row(link: Link, i: usize, row: Row) -> Link
     changed
 }
 
-// The same, and the blocks of the owners from low to high are free.
-fn freed(link: Link, i: usize, row: Row, low: Owner, high: Owner) -> Link
-    requires { ⌜ i < 8 ⌝ }
-    ensures { λ r. ⌜ r ≡ withOwners (withRow link i row) (released (low .0) (high .0) (link .owners)) ⌝ }
+// The block map after a decision about row i's message at a place.
+fn owners_after(owners: [u8; 256], i: usize, place: usize, act: Act) -> [u8; 256]
+    requires { ⌜ (i < 8) × (place < 5) ⌝ }
+    ensures { λ r. ⌜ r ≡ ownersAfter i place owners act ⌝ }
 {
-    let before = link.owners;
-    let owners = blocks::release(before, low, high);
-    let mut changed = with_row(link, i, row);
-    changed.owners = owners;
-    changed
-}
-
-// The same, and the lowest free blocks, so many, go to an owner.
-fn claiming(link: Link, i: usize, row: Row, owner: Owner, count: usize) -> Link
-    requires { ⌜ i < 8 ⌝ }
-    ensures { λ r. ⌜ r ≡ withOwners (withRow link i row) (claimed (owner .0) count (link .owners)) ⌝ }
-{
-    let before = link.owners;
-    let owners = blocks::claim(before, count, owner);
-    let mut changed = with_row(link, i, row);
-    changed.owners = owners;
-    changed
+    let mine = owner(i, place);
+    match act {
+        Act::Refuse(_) => owners,
+        Act::Drop(_) => blocks::release(owners, mine, mine),
+        Act::Accept => owners,
+        Act::Beat => owners,
+        Act::Start => owners,
+        Act::NoStart => owners,
+        Act::Stop => blocks::release(owners, mine, mine),
+        Act::Close => blocks::release(owners, owner(i, 0), owner(i, 4)),
+        Act::NoEnd(_) => owners,
+        Act::Claim(total, _) => blocks::claim(owners, session::need_of(total), mine),
+        Act::Append => owners,
+        Act::Deliver => blocks::release(owners, mine, mine),
+        Act::Single => owners,
+    }
 }
 
 // What a control frame's payload says of a hash.
@@ -167,146 +146,33 @@ fn put_front(bytes: &[u8], out: &mut [u8])
     bytes::copy(bytes, &mut out[0..end]);
 }
 
-// ---- what is done about a frame of row i; `consumed` are the frame's bytes
+// ---- what is done about a frame of a session
 
-// 24 and 25: the message on the frame's service is dropped.
-fn drop(link: Link, i: usize, header: Header, number: u8) -> Called
-    requires { ⌜ i < 8 ⌝ }
-    ensures { λ r. ⌜ ((p o payload : List ℕ) (consumed : ℕ) (g : Offer) → leaves r p o ≡ applied link i p o header consumed payload g (Drop number)) ⌝ }
-{
-    let mine = owner(i, session::place_of(header.service));
-    let after = row_then(link, i, header, 0, Act::Drop(number));
-    Called {
-        answer: Answer::Refused(number),
-        link: freed(link, i, after, mine, mine),
-    }
+// What a decision about a frame is carried out with.
+struct Case {
+    // whom a reply comes from
+    from: From,
+    // the session's row
+    row: Row,
+    // the message on the frame's service, and its blocks' owner
+    message: Reassembly,
+    mine: Owner,
+    mtu: u32,
+    // the offer's hash
+    hash: u32,
+    // the frame's bytes
+    consumed: usize,
 }
 
-// A First Frame is admitted: its blocks are claimed, and nothing is written.
-fn claim(link: Link, i: usize, header: Header, consumed: usize, total: u32, count: u32) -> Called
-    requires { ⌜ i < 8 ⌝ }
-    ensures { λ r. ⌜ ((p o payload : List ℕ) (g : Offer) → leaves r p o ≡ applied link i p o header consumed payload g (Claim total count)) ⌝ }
+// Whom a reply in a session comes from; major is the module's own version.
+fn from(major: u8, row: Row, service: ServiceType) -> From
+    ensures { λ r. ⌜ r ≡ fromRow major row service ⌝ }
 {
-    let mine = owner(i, session::place_of(header.service));
-    let after = row_then(link, i, header, 0, Act::Claim(total, count));
-    let need = session::need_of(total);
-    Called {
-        answer: Answer::Accepted(consumed),
-        link: claiming(link, i, after, mine, need),
-    }
-}
-
-// Whom a reply in row i comes from.
-fn from(link: Link, i: usize, header: Header) -> From
-    requires { ⌜ i < 8 ⌝ }
-    ensures { λ r. ⌜ r ≡ fromOf link i header ⌝ }
-{
-    let row = row_at(link, i);
-    let service = header.service;
     let session = row.id;
     From {
-        version: session::reply_version(row, link.version.major),
+        version: session::reply_version(row, major),
         service: service,
         session: session,
-    }
-}
-
-// A Heartbeat is answered; its ACK is not counted.
-fn beat(link: Link, i: usize, header: Header, consumed: usize, out: &mut [u8]) -> Called
-    requires { ⌜ Serves link i header (now out) ⌝ }
-    ensures { λ r. ⌜ ((p payload : List ℕ) (g : Offer) → leaves r p (now (out .exit)) ≡ applied link i p (now (out .entry)) header consumed payload g Beat) ⌝ }
-{
-    let size = replies::put_empty(from(link, i, header), replies::BEAT_ACK, 0, out);
-    Called {
-        answer: Answer::Beat(consumed, size),
-        link: link,
-    }
-}
-
-// A Start that is not acknowledged.
-fn no_start(link: Link, i: usize, header: Header, consumed: usize, out: &mut [u8]) -> Called
-    requires { ⌜ Serves link i header (now out) ⌝ }
-    ensures { λ r. ⌜ ((p payload : List ℕ) (g : Offer) → leaves r p (now (out .exit)) ≡ applied link i p (now (out .entry)) header consumed payload g NoStart) ⌝ }
-{
-    let size = replies::put_empty(from(link, i, header), replies::START_NAK, 0, out);
-    Called {
-        answer: Answer::Nacked(consumed, size),
-        link: link,
-    }
-}
-
-// An End of audio or video: its message is dropped, and the ACK is counted.
-fn stop(link: Link, i: usize, header: Header, consumed: usize, out: &mut [u8]) -> Called
-    requires { ⌜ Serves link i header (now out) ⌝ }
-    ensures { λ r. ⌜ ((p payload : List ℕ) (g : Offer) → leaves r p (now (out .exit)) ≡ applied link i p (now (out .entry)) header consumed payload g Stop) ⌝ }
-{
-    let row = row_at(link, i);
-    let mine = owner(i, session::place_of(header.service));
-    let after = row_then(link, i, header, 0, Act::Stop);
-    let size = replies::put_empty(from(link, i, header), replies::END_ACK, row.next, out);
-    Called {
-        answer: Answer::Acked(consumed, size),
-        link: freed(link, i, after, mine, mine),
-    }
-}
-
-// An End of 07 closes the session: its row and all its blocks are free.
-fn close(link: Link, i: usize, header: Header, consumed: usize, out: &mut [u8]) -> Called
-    requires { ⌜ Serves link i header (now out) ⌝ }
-    ensures { λ r. ⌜ ((p payload : List ℕ) (g : Offer) → leaves r p (now (out .exit)) ≡ applied link i p (now (out .entry)) header consumed payload g Close) ⌝ }
-{
-    let closing = row_at(link, i);
-    let size = replies::put_empty(from(link, i, header), replies::END_ACK, closing.next, out);
-    Called {
-        answer: Answer::Acked(consumed, size),
-        link: freed(link, i, Row::free(), owner(i, 0), owner(i, 4)),
-    }
-}
-
-// A service starts with the offer's hash, and its ACK is counted.
-fn start(
-    link: Link,
-    i: usize,
-    header: Header,
-    consumed: usize,
-    grant: Grant,
-    out: &mut [u8],
-) -> Called
-    requires { ⌜ Serves link i header (now out) ⌝ }
-    ensures { λ r. ⌜ ((p payload : List ℕ) → leaves r p (now (out .exit)) ≡ applied link i p (now (out .entry)) header consumed payload grant Start) ⌝ }
-{
-    let row = row_at(link, i);
-    let after = row_then(link, i, header, grant.hash, Act::Start);
-    let size = replies::put_started(
-        from(link, i, header),
-        row.version,
-        row.next,
-        grant.hash,
-        link.mtu,
-        out,
-    );
-    Called {
-        answer: Answer::Acked(consumed, size),
-        link: with_row(link, i, after),
-    }
-}
-
-// An End that is not acknowledged.
-fn no_end(
-    link: Link,
-    i: usize,
-    header: Header,
-    consumed: usize,
-    named: bool,
-    out: &mut [u8],
-) -> Called
-    requires { ⌜ Serves link i header (now out) ⌝ }
-    ensures { λ r. ⌜ ((p payload : List ℕ) (g : Offer) → leaves r p (now (out .exit)) ≡ applied link i p (now (out .entry)) header consumed payload g (NoEnd named)) ⌝ }
-{
-    let size = replies::put_not_ended(from(link, i, header), named, out);
-    Called {
-        answer: Answer::Nacked(consumed, size),
-        link: link,
     }
 }
 
@@ -317,114 +183,122 @@ fn less(a: u32, b: u32) -> u32
     if a < b { 0 } else { a - b }
 }
 
-// Row i's message at a place.
-fn message_at(link: Link, i: usize, place: usize) -> Reassembly
-    requires { ⌜ (i < 8) × (place < 5) ⌝ }
-    ensures { λ r. ⌜ r ≡ messageAt (getD (link .rows) i noRow) place ⌝ }
+// A payload goes to a message's blocks, right behind the bytes that are there.
+fn feed(owners: &[u8], mine: Owner, message: Reassembly, payload: &[u8], pool: &mut [u8])
+    ensures { λ _. ⌜ now (pool .exit) ≡ appended (mine .0) (message .total - message .missing) (now (payload .entry)) (now (owners .entry)) (now (pool .entry)) ⌝ }
 {
-    let rows = link.rows;
-    let row = rows[i];
-    row.messages[place]
-}
-
-// A payload goes to the blocks of row i's message at a place, right behind the bytes that are there.
-fn feed(link: Link, i: usize, place: usize, payload: &[u8], pool: &mut [u8])
-    requires { ⌜ (i < 8) × (place < 5) ⌝ }
-    ensures { λ _. ⌜ now (pool .exit) ≡ appended (ownerOf i place) (messageAt (getD (link .rows) i noRow) place .total - messageAt (getD (link .rows) i noRow) place .missing) (now (payload .entry)) (link .owners) (now (pool .entry)) ⌝ }
-{
-    let message = message_at(link, i, place);
     let there = less(message.total, message.missing) as usize;
-    blocks::append(&link.owners, owner(i, place), there, payload, pool);
+    blocks::append(owners, mine, there, payload, pool);
 }
 
-// A consecutive frame that is not its message's last.
-fn append(
-    link: Link,
-    i: usize,
-    header: Header,
-    consumed: usize,
-    payload: &[u8],
-    pool: &mut [u8],
-) -> Called
-    requires { ⌜ i < 8 ⌝ }
-    ensures { λ r. ⌜ ((o : List ℕ) (g : Offer) → leaves r (now (pool .exit)) o ≡ applied link i (now (pool .entry)) o header consumed (now (payload .entry)) g Append) ⌝ }
-{
-    let place = session::place_of(header.service);
-    feed(link, i, place, payload, pool);
-    let after = row_then(link, i, header, 0, Act::Append);
-    Called {
-        answer: Answer::Accepted(consumed),
-        link: with_row(link, i, after),
-    }
-}
-
-// The last one: the message is written to the front of out, and its blocks are free.
+// The last one: the message is written to the front of out.
 fn deliver(
-    link: Link,
-    i: usize,
-    header: Header,
-    consumed: usize,
+    owners: &[u8],
+    mine: Owner,
+    message: Reassembly,
     payload: &[u8],
     pool: &mut [u8],
     out: &mut [u8],
-) -> Called
-    requires { ⌜ (i < 8) × (messageAt (getD (link .rows) i noRow) (placeOf (header .service .0)) .total ≤ length (now out)) ⌝ }
-    ensures { λ r. ⌜ ((g : Offer) → leaves r (now (pool .exit)) (now (out .exit)) ≡ applied link i (now (pool .entry)) (now (out .entry)) header consumed (now (payload .entry)) g Deliver) ⌝ }
+)
+    requires { ⌜ message .total ≤ length (now out) ⌝ }
+    ensures { λ _. ⌜ now (pool .exit) ≡ appended (mine .0) (message .total - message .missing) (now (payload .entry)) (now (owners .entry)) (now (pool .entry)) ⌝ }
+    ensures { λ _. ⌜ now (out .exit) ≡ laid (take (message .total) (blockBytes (mine .0) (now (owners .entry)) (now (pool .exit)))) (now (out .entry)) ⌝ }
 {
-    let place = session::place_of(header.service);
-    feed(link, i, place, payload, pool);
-    let mine = owner(i, place);
-    let message = message_at(link, i, place);
+    feed(owners, mine, message, payload, pool);
     let size = message.total as usize;
-    blocks::deliver(&link.owners, mine, size, pool, out);
-    let after = row_then(link, i, header, 0, Act::Deliver);
-    let service = header.service;
-    Called {
-        answer: Answer::Delivered(consumed, service, size),
-        link: freed(link, i, after, mine, mine),
-    }
+    blocks::deliver(owners, mine, size, pool, out);
 }
 
-// A Single Frame's payload to the front of out.
-fn single(
-    link: Link,
-    i: usize,
-    header: Header,
-    consumed: usize,
+// What is done about a frame, but for the link: its answer, and the bytes of pool and out.
+fn tell(
+    case: Case,
+    act: Act,
+    owners: &[u8],
     payload: &[u8],
+    pool: &mut [u8],
     out: &mut [u8],
-) -> Called
-    requires { ⌜ (i < 8) × (length (now payload) ≤ length (now out)) ⌝ }
-    ensures { λ r. ⌜ ((p : List ℕ) (g : Offer) → leaves r p (now (out .exit)) ≡ applied link i p (now (out .entry)) header consumed (now (payload .entry)) g Single) ⌝ }
+) -> Answer
+    requires { ⌜ Repliable (case .from) (now out) × Roomy (length (now out)) (length (now payload)) (case .message .total) act ⌝ }
+    ensures { λ r. ⌜ told r (now (pool .exit)) (now (out .exit)) ≡ toldOf case (now (owners .entry)) (now (payload .entry)) (now (pool .entry)) (now (out .entry)) act ⌝ }
 {
-    put_front(payload, out);
-    let after = row_then(link, i, header, 0, Act::Single);
-    let service = header.service;
-    Called {
-        answer: Answer::Delivered(consumed, service, payload.len()),
-        link: with_row(link, i, after),
+    let from = case.from;
+    let service = from.service;
+    let consumed = case.consumed;
+    let next = case.row.next;
+    match act {
+        Act::Refuse(number) => Answer::Refused(number),
+        Act::Drop(number) => Answer::Refused(number),
+        Act::Accept => Answer::Accepted(consumed),
+        Act::Beat => Answer::Beat(
+            consumed,
+            replies::put_empty(from, replies::BEAT_ACK, 0, out),
+        ),
+        Act::Start => {
+            let version = case.row.version;
+            let size = replies::put_started(from, version, next, case.hash, case.mtu, out);
+            Answer::Acked(consumed, size)
+        }
+        Act::NoStart => {
+            Answer::Nacked(
+                consumed,
+                replies::put_empty(from, replies::START_NAK, 0, out),
+            )
+        }
+        Act::Stop => Answer::Acked(
+            consumed,
+            replies::put_empty(from, replies::END_ACK, next, out),
+        ),
+        Act::Close => {
+            Answer::Acked(
+                consumed,
+                replies::put_empty(from, replies::END_ACK, next, out),
+            )
+        }
+        Act::NoEnd(named) => Answer::Nacked(consumed, replies::put_not_ended(from, named, out)),
+        Act::Claim(_, _) => Answer::Accepted(consumed),
+        Act::Append => {
+            feed(owners, case.mine, case.message, payload, pool);
+            Answer::Accepted(consumed)
+        }
+        Act::Deliver => {
+            deliver(owners, case.mine, case.message, payload, pool, out);
+            Answer::Delivered(consumed, service, case.message.total as usize)
+        }
+        Act::Single => {
+            put_front(payload, out);
+            Answer::Delivered(consumed, service, payload.len())
+        }
     }
 }
 
 // ---- decisions
 
-// The room that the other sessions take.
-fn others(rows: [Row; 8], row: Row) -> u32
-    ensures { λ r. ⌜ r ≡ sharesIn rows - shareOf row ⌝ }
+// The room that the other sessions take, of what all of them take.
+fn others(shared: usize, row: Row) -> u32
+    requires { ⌜ shared ≤ 671088640 ⌝ }
+    ensures { λ r. ⌜ r ≡ shared - shareOf row ⌝ }
 {
-    let all = rules::shares(rows);
     let own = session::share(row);
-    if all < own { 0 } else { (all - own) as u32 }
+    if shared < own {
+        0
+    } else {
+        (shared - own) as u32
+    }
 }
 
-// What is to be done about a frame of row i; room is out's length.
-fn decide(link: Link, i: usize, header: Header, payload: &[u8], room: usize) -> Act
-    requires { ⌜ i < 8 ⌝ }
-    ensures { λ r. ⌜ r ≡ decisionOf link i header (now (payload .entry)) room ⌝ }
+// What is to be done about a frame of a session; room is out's length.
+fn decide(
+    major: u8,
+    mtu: u32,
+    row: Row,
+    others: u32,
+    header: Header,
+    payload: &[u8],
+    room: usize,
+) -> Act
+    ensures { λ r. ⌜ r ≡ decisionBy major mtu row others header (now (payload .entry)) room ⌝ }
 {
-    let rows = link.rows;
-    let row = rows[i];
-    let barred = session::barred_by(row, header, link.version.major, link.mtu);
+    let barred = session::barred_by(row, header, major, mtu);
     if barred != 0 {
         return Act::Refuse(barred);
     }
@@ -433,50 +307,12 @@ fn decide(link: Link, i: usize, header: Header, payload: &[u8], room: usize) -> 
     }
     session::content(
         row,
-        others(rows, row),
+        others,
         room,
         header,
         numbers::be4(payload, 0),
         numbers::be4(payload, 4),
     )
-}
-
-// What is done about it.
-fn apply(
-    link: Link,
-    i: usize,
-    header: Header,
-    consumed: usize,
-    payload: &[u8],
-    grant: Grant,
-    act: Act,
-    pool: &mut [u8],
-    out: &mut [u8],
-) -> Called
-    requires { ⌜ Serves link i header (now out) × Roomy (length (now out)) (length (now payload)) (messageAt (getD (link .rows) i noRow) (placeOf (header .service .0)) .total) act ⌝ }
-    ensures { λ r. ⌜ leaves r (now (pool .exit)) (now (out .exit)) ≡ applied link i (now (pool .entry)) (now (out .entry)) header consumed (now (payload .entry)) grant act ⌝ }
-{
-    match act {
-        Act::Refuse(number) => Called {
-            answer: Answer::Refused(number),
-            link: link,
-        },
-        Act::Drop(number) => drop(link, i, header, number),
-        Act::Accept => Called {
-            answer: Answer::Accepted(consumed),
-            link: link,
-        },
-        Act::Beat => beat(link, i, header, consumed, out),
-        Act::Start => start(link, i, header, consumed, grant, out),
-        Act::NoStart => no_start(link, i, header, consumed, out),
-        Act::Stop => stop(link, i, header, consumed, out),
-        Act::Close => close(link, i, header, consumed, out),
-        Act::NoEnd(named) => no_end(link, i, header, consumed, named, out),
-        Act::Claim(total, count) => claim(link, i, header, consumed, total, count),
-        Act::Append => append(link, i, header, consumed, payload, pool),
-        Act::Deliver => deliver(link, i, header, consumed, payload, pool, out),
-        Act::Single => single(link, i, header, consumed, payload, out),
-    }
 }
 
 // ---- opening
@@ -498,11 +334,13 @@ fn is_opening(header: Header) -> bool
 }
 
 // Whether there is a free row, and room for the guarantee.
-fn is_admitted(rows: [Row; 8], grant: Grant) -> bool
-    ensures { λ r. ⌜ (r ≡ admits rows grant) × (r ≡ true → indexOf 0 rows < 8) ⌝ }
+fn is_admitted(seen: Overview, grant: Grant) -> bool
+    requires { ⌜ seen .shared ≤ 671088640 ⌝ }
+    ensures { λ r. ⌜ ((link : State) → Seen link seen → (r ≡ admits (link .rows) grant) × (r ≡ true → indexOf 0 (link .rows) < 8)) ⌝ }
 {
-    let free = rules::index_of(rows, SessionId(0));
-    let sum = rules::shares(rows) + grant.guarantee as usize;
+    let ids = seen.ids;
+    let free = rules::index_of(ids, SessionId(0));
+    let sum = seen.shared + grant.guarantee as usize;
     (free < 8) & (sum <= 256)
 }
 
@@ -586,12 +424,17 @@ fn old_version(major: u8) -> u8
 }
 
 // The session in the free row i, with an old version.
-fn opened_old(link: Link, i: usize, consumed: usize, grant: Grant, out: &mut [u8]) -> Called
-    requires { ⌜ (i < 8) × ((i ≡ indexOf 0 (link .rows)) × ((128 ≤ length (now out)) × (1 ≤ link .version .major))) ⌝ }
+fn opened_old(
+    link: Link,
+    i: usize,
+    id: SessionId,
+    consumed: usize,
+    grant: Grant,
+    out: &mut [u8],
+) -> Called
+    requires { ⌜ (i < 8) × ((i ≡ indexOf 0 (link .rows)) × ((128 ≤ length (now out)) × ((1 ≤ link .version .major) × (id .0 ≡ lowestFree 255 1 (link .rows))))) ⌝ }
     ensures { λ r. ⌜ ((p : List ℕ) → leaves r p (now (out .exit)) ≡ opened link p (now (out .entry)) consumed grant (oldVersion (link .version .major)) (oldAck (link .version .major) (lowestFree 255 1 (link .rows)) (grant .hash))) ⌝ }
 {
-    let rows = link.rows;
-    let id = rules::lowest_free(rows);
     let row = Row::opened(
         id,
         grant.guarantee,
@@ -615,16 +458,15 @@ fn opened_old(link: Link, i: usize, consumed: usize, grant: Grant, out: &mut [u8
 fn opened_new(
     link: Link,
     i: usize,
+    id: SessionId,
     consumed: usize,
     grant: Grant,
     wish: Version,
     out: &mut [u8],
 ) -> Called
-    requires { ⌜ (i < 8) × ((i ≡ indexOf 0 (link .rows)) × (128 ≤ length (now out))) ⌝ }
+    requires { ⌜ (i < 8) × ((i ≡ indexOf 0 (link .rows)) × ((128 ≤ length (now out)) × (id .0 ≡ lowestFree 255 1 (link .rows)))) ⌝ }
     ensures { λ r. ⌜ ((p : List ℕ) → leaves r p (now (out .exit)) ≡ opened link p (now (out .entry)) consumed grant 5 (newAck (lowestFree 255 1 (link .rows)) (grant .hash) (link .mtu) (lesserOf (link .version) wish))) ⌝ }
 {
-    let rows = link.rows;
-    let id = rules::lowest_free(rows);
     let row = Row::opened(id, grant.guarantee, grant.cap, 5, grant.hash);
     let own = link.version;
     let version = payload::version::lesser(own, wish);
@@ -636,59 +478,63 @@ fn opened_new(
 }
 
 // With an old version, where there is a row and room for the guarantee.
-fn open_old(link: Link, consumed: usize, grant: Grant, out: &mut [u8]) -> Called
-    requires { ⌜ (128 ≤ length (now out)) × (1 ≤ link .version .major) ⌝ }
+fn open_old(link: Link, seen: Overview, consumed: usize, grant: Grant, out: &mut [u8]) -> Called
+    requires { ⌜ (128 ≤ length (now out)) × ((1 ≤ link .version .major) × Seen link seen) ⌝ }
     ensures { λ r. ⌜ ((p : List ℕ) → leaves r p (now (out .exit)) ≡ openingBy link p (now (out .entry)) consumed grant old) ⌝ }
 {
-    let rows = link.rows;
-    if !is_admitted(rows, grant) {
+    if !is_admitted(seen, grant) {
         return not_admitted(link, consumed, out);
     }
-    opened_old(
-        link,
-        rules::index_of(rows, SessionId(0)),
-        consumed,
-        grant,
-        out,
-    )
+    let ids = seen.ids;
+    let i = rules::index_of(ids, SessionId(0));
+    opened_old(link, i, rules::lowest_free(ids), consumed, grant, out)
 }
 
 // The same from 5.0.0 on.
-fn open_new(link: Link, consumed: usize, grant: Grant, wish: Version, out: &mut [u8]) -> Called
-    requires { ⌜ (128 ≤ length (now out)) × (1 ≤ link .version .major) ⌝ }
+fn open_new(
+    link: Link,
+    seen: Overview,
+    consumed: usize,
+    grant: Grant,
+    wish: Version,
+    out: &mut [u8],
+) -> Called
+    requires { ⌜ (128 ≤ length (now out)) × ((1 ≤ link .version .major) × Seen link seen) ⌝ }
     ensures { λ r. ⌜ ((p : List ℕ) → leaves r p (now (out .exit)) ≡ openingBy link p (now (out .entry)) consumed grant (new wish)) ⌝ }
 {
-    let rows = link.rows;
-    if !is_admitted(rows, grant) {
+    if !is_admitted(seen, grant) {
         return not_admitted(link, consumed, out);
     }
-    opened_new(
-        link,
-        rules::index_of(rows, SessionId(0)),
-        consumed,
-        grant,
-        wish,
-        out,
-    )
+    let ids = seen.ids;
+    let i = rules::index_of(ids, SessionId(0));
+    opened_new(link, i, rules::lowest_free(ids), consumed, grant, wish, out)
 }
 
 // An opening.
-fn open(link: Link, consumed: usize, payload: &[u8], grant: Grant, out: &mut [u8]) -> Called
-    requires { ⌜ (128 ≤ length (now out)) × (1 ≤ link .version .major) ⌝ }
+fn open(
+    link: Link,
+    seen: Overview,
+    consumed: usize,
+    payload: &[u8],
+    grant: Grant,
+    out: &mut [u8],
+) -> Called
+    requires { ⌜ (128 ≤ length (now out)) × ((1 ≤ link .version .major) × Seen link seen) ⌝ }
     ensures { λ r. ⌜ ((p : List ℕ) → leaves r p (now (out .exit)) ≡ openingBy link p (now (out .entry)) consumed grant (wishOf (link .version .major) (now (payload .entry)))) ⌝ }
 {
     match wish_of(link.version.major, payload) {
-        Wished::Old => open_old(link, consumed, grant, out),
-        Wished::New(wish) => open_new(link, consumed, grant, wish, out),
+        Wished::Old => open_old(link, seen, consumed, grant, out),
+        Wished::New(wish) => open_new(link, seen, consumed, grant, wish, out),
         Wished::Bad => not_readable(link, consumed, out),
     }
 }
 
 // ---- the call
 
-// A frame of the session in row i.
+// A frame of the session in row i: decided by its row, told in pool and out, and noted in row and block map. `shared` is what all sessions take.
 fn within(
-    link: Link,
+    mut link: Link,
+    shared: usize,
     i: usize,
     header: Header,
     consumed: usize,
@@ -697,23 +543,38 @@ fn within(
     pool: &mut [u8],
     out: &mut [u8],
 ) -> Called
-    requires { ⌜ Serves link i header (now out) × (length (now payload) ≡ header .size) ⌝ }
+    requires { ⌜ Serves link i header (now out) × ((length (now payload) ≡ header .size) × ((shared ≡ sharesIn (link .rows)) × (shared ≤ 671088640))) ⌝ }
     ensures { λ r. ⌜ leaves r (now (pool .exit)) (now (out .exit)) ≡ applied link i (now (pool .entry)) (now (out .entry)) header consumed (now (payload .entry)) grant (decisionOf link i header (now (payload .entry)) (length (now (out .entry)))) ⌝ }
 {
-    let act = decide(link, i, header, payload, out.len());
-    apply(link, i, header, consumed, payload, grant, act, pool, out)
-}
-
-// Where a session's row stands; 8 if it has none. The rows are eight, for the caller's proof.
-fn row_of(rows: [Row; 8], session: SessionId) -> usize
-    ensures { λ r. ⌜ (r ≡ indexOf (session .0) rows) × (length rows ≡ 8) ⌝ }
-{
-    rules::index_of(rows, session)
+    let row = link.rows[i];
+    let major = link.version.major;
+    let rest = others(shared, row);
+    let act = decide(major, link.mtu, row, rest, header, payload, out.len());
+    let place = session::place_of(header.service);
+    let case = Case {
+        from: from(major, row, header.service),
+        row: row,
+        message: row.messages[place],
+        mine: owner(i, place),
+        mtu: link.mtu,
+        hash: grant.hash,
+        consumed: consumed,
+    };
+    let answer = tell(case, act, &link.owners, payload, pool, out);
+    link.rows[i] = session::row_after(row, header, grant.hash, act);
+    let before = link.owners;
+    let owners = owners_after(before, i, place, act);
+    link.owners = owners;
+    Called {
+        answer: answer,
+        link: link,
+    }
 }
 
 // A frame of a link within the rules: 11, an opening, 12, or its session's.
 fn take(
     link: Link,
+    seen: Overview,
     header: Header,
     extent: Extent,
     input: &[u8],
@@ -721,7 +582,7 @@ fn take(
     pool: &mut [u8],
     out: &mut [u8],
 ) -> Called
-    requires { ⌜ (readOf (now input) ≡ Frame header extent) × (guardOf link (length (now pool)) grant ≡ true) ⌝ }
+    requires { ⌜ (readOf (now input) ≡ Frame header extent) × ((guardOf link (length (now pool)) grant ≡ true) × Seen link seen) ⌝ }
     ensures { λ r. ⌜ leaves r (now (pool .exit)) (now (out .exit)) ≡ frameOf link (now (pool .entry)) (now (input .entry)) (now (out .entry)) header extent grant ⌝ }
 {
     if out.len() < LEAST_OUT {
@@ -732,7 +593,7 @@ fn take(
     }
     let payload = frame::payload(input, extent);
     if is_opening(header) {
-        return open(link, extent.consumed, payload, grant, out);
+        return open(link, seen, extent.consumed, payload, grant, out);
     }
     if header.session.0 == 0 {
         return Called {
@@ -740,10 +601,20 @@ fn take(
             link: link,
         };
     }
-    let rows = link.rows;
-    let i = row_of(rows, header.session);
+    let ids = seen.ids;
+    let i = rules::index_of(ids, header.session);
     if i < 8 {
-        return within(link, i, header, extent.consumed, payload, grant, pool, out);
+        return within(
+            link,
+            seen.shared,
+            i,
+            header,
+            extent.consumed,
+            payload,
+            grant,
+            pool,
+            out,
+        );
     }
     Called {
         answer: Answer::Refused(NOT_OPEN),
@@ -755,7 +626,8 @@ fn take(
 pub fn call(link: Link, pool: &mut [u8], input: &[u8], out: &mut [u8], grant: Grant) -> Called
     ensures { λ r. ⌜ leaves r (now (pool .exit)) (now (out .exit)) ≡ callOf link (now (pool .entry)) (now (input .entry)) (now (out .entry)) grant ⌝ }
 {
-    if !rules::guard(link, pool.len(), grant) {
+    let seen = rules::survey(link, pool.len(), grant);
+    if !seen.fit {
         return Called {
             answer: Answer::Refused(OUT_OF_RANGE),
             link: link,
@@ -770,7 +642,7 @@ pub fn call(link: Link, pool: &mut [u8], input: &[u8], out: &mut [u8], grant: Gr
             answer: Answer::Refused(number),
             link: link,
         },
-        Reading::Frame(header, extent) => take(link, header, extent, input, grant, pool, out),
+        Reading::Frame(header, extent) => take(link, seen, header, extent, input, grant, pool, out),
     }
 }
 

@@ -16,11 +16,12 @@ use Rattle.session.specs.declared.Row.{Row}
 use Rattle.session.specs.Decide.{needOf, heldBy as heldFor, heldIn, heldOf, shareOf}
 use Rattle.link.specs.Pages.{FiveEach}
 use Rattle.link.specs.declared.Link.{Link}
-use Rattle.link.specs.State.{allFrom, ownerOf, sharesIn, freeFits, blocksFit, rowFits, rulesHold}
+use Rattle.link.specs.declared.Grant.{Grant}
+use Rattle.link.specs.State.{allFrom, ownerOf, sharesIn, freeFits, blocksFit, rowFits, rulesHold, settingsFit, grantFits, guardOf}
 use Rattle.link.proofs.Table.{either}
 use Rattle.link.proofs.RowRules.{both, and-yes}
 use Rattle.link.proofs.TableRules.{heldsIn, forty}
-use Rattle.rules.specs.Parts.{noneLive, sessionFits, idsOf, distinctIn, holdsNeed, openFit, rowSound, ofSession, heldSum, shareSum}
+use Rattle.rules.specs.Parts.{noneLive, sessionFits, distinctIn, holdsNeed, openFit, rowSound, ofSession, heldSum, shareSum, Summed}
 use Rattle.rules.proofs.Turns.{distinct-ids}
 
 -- ---- owners have no more blocks than there are
@@ -266,10 +267,29 @@ module _ (map : List ℕ) where
           same false true f g = g refl
           same false false f g = refl
 
--- the rules of a link, by what was found of it: whether ids are distinct, whether rows fit, their sums and the free blocks
-pub rules-found : (l : Link) (apart fit : Bool) (shared held free : ℕ) (said : Bool) → length (l .owners) ≡ 256 → length (l .rows) ≡ 8 → FiveEach (l .rows)
-    → apart ≡ distinctIn (idsOf (l .rows)) → fit ≡ allFrom 0 (rowSound (l .version .major) (l .owners)) (l .rows) → shared ≡ shareSum (l .rows)
-    → held ≡ heldSum (l .rows) → free ≡ freeIn (l .owners) → said ≡ apart && (fit && (leb shared 256 && eqb (held + free) 256)) → said ≡ rulesHold l
+-- ---- what a survey finds
+
+-- the rules of a link, by what one pass over its rows found
+rules-found : (l : Link) (fit : Bool) (held shared : ℕ) (ids : List ℕ) → length (l .owners) ≡ 256 → Summed l fit held shared ids
+    → distinctIn ids && (fit && (leb shared 256 && eqb (held + freeIn (l .owners)) 256)) ≡ rulesHold l
 unfolding rulesHold
-rules-found l apart fit shared held free said whole eight five a b c d e same =
-    same ∙ rw (a, b, c, d, e, distinct-ids (l .rows), rules-same (l .owners) (l .version .major) (l .rows) whole eight five)
+rules-found l fit held shared ids whole s =
+    rw (s .names, s .fits, s .shares, s .holds, distinct-ids (l .rows), rules-same (l .owners) (l .version .major) (l .rows) whole (s .eight) (s .five))
+
+module _ (l : Link) (pool : ℕ) (g : Grant) (fit : Bool) (held shared : ℕ) (ids : List ℕ) (whole : length (l .owners) ≡ 256) (s : Summed l fit held shared ids) where
+  -- refusal 10, by what was found
+  pub guard-found : (settings granted apart : Bool) (free : ℕ) → settings ≡ settingsFit (l .version) (l .mtu) → granted ≡ grantFits g → apart ≡ distinctIn ids → free ≡ freeIn (l .owners)
+      → eqb pool 65536 && (settings && (granted && (apart && (fit && (leb shared 256 && eqb (held + free) 256))))) ≡ guardOf l pool g
+  unfolding guardOf
+  guard-found settings granted apart free a b c d = rw (a, b, c, d, rules-found l fit held shared ids whole s)
+
+  -- and the sum of shares, where it is not earned
+  pub shares-found : guardOf l pool g ≡ true → shared ≡ sharesIn (l .rows)
+  unfolding guardOf
+  shares-found e =
+      let inner = both (eqb pool 65536) (settingsFit (l .version) (l .mtu) && (grantFits g && rulesHold l)) e .1 in
+      let rules = both (grantFits g) (rulesHold l) (both (settingsFit (l .version) (l .mtu)) (grantFits g && rulesHold l) inner .1) .1 in
+      let rest : Bool = leb shared 256 && eqb (held + freeIn (l .owners)) 256 in
+      let tests : distinctIn ids && (fit && rest) ≡ true = rules-found l fit held shared ids whole s ∙ rules in
+      let sound = both fit rest (both (distinctIn ids) (fit && rest) tests .1) .0 in
+      s .shares ∙ all-sums (l .owners) (l .version .major) 0 (l .rows) (sym (s .fits) ∙ sound) .1

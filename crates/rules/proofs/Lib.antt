@@ -1,3 +1,4 @@
+pub mod Ids
 mod Folds
 mod Turns
 mod Counts

@@ -1,23 +1,24 @@
 -- What one turn of a loop over the rows does: what is passed, and what is left. Assumes nothing.
-use Prim.Native.Nat.{ℕ, suc, _+_, _-_, _<_, _≤_}
-use mathlib.Core.Path.{_≡_, refl, ap, ap₂, _∙_}
+use Prim.Native.Nat.{ℕ, zero, suc, _+_, _-_, _<_, _≤_}
+use mathlib.Core.Path.{_≡_, refl, ap, ap₂, sym, _∙_}
 use mathlib.Core.Logic.{_≢_}
 use mathlib.Core.Bool.{Bool, _&&_, _||_, not}
 use mathlib.Core.List.{List, [], _∷_}
 use native.Mathlib.Numerals.{add-one}
 use native.Mathlib.Omega.{arith}
 use lib.Dec.{eqb}
-use lib.ListN.{length, getD, drop, drop-of-length-le}
-use lib.Seq.{drop-cons}
+use lib.ListN.{length, getD, take, drop, set, drop-of-length-le}
+use lib.Seq.{drop-cons, take-suc, take-suc-set, take-all}
 use borrow.Author.Tests.{eq-eqb, ne-eqb}
 use Rattle.session.specs.declared.Row.{Row}
 use Rattle.session.specs.Rows.{noRow}
 use Rattle.session.specs.Decide.{heldOf, shareOf}
 use Rattle.link.specs.Pages.{FiveEach}
-use Rattle.link.specs.State.{indexOf, distinctIds, sharesIn, lowestFree}
-use Rattle.link.proofs.Table.{either, index-here, index-later, index-none, lowest-here, lowest-later, lowest-none}
-use Rattle.rules.specs.Parts.{idsOf, missingIn, distinctIn, ofSession, heldSum, shareSum}
+use Rattle.link.specs.State.{indexOf, distinctIds}
+use Rattle.link.proofs.Table.{either, index-here, index-later, index-none}
+use Rattle.rules.specs.Parts.{idsOf, indexIn, lowestIn, missingIn, distinctIn, ofSession, heldSum, shareSum}
 use Rattle.rules.proofs.Folds.{more, and-end}
+use Rattle.rules.proofs.Ids.{ids-length}
 
 suc-eqb : (a b : ℕ) → eqb (suc a) (suc b) ≡ eqb a b
 suc-eqb a b =
@@ -27,14 +28,36 @@ suc-eqb a b =
 
 -- ---- where an id stands
 
-pub index-hit : (id : ℕ) (rs : List Row) (i : ℕ) → i < length rs → getD rs i noRow .id .0 ≡ id → indexOf id (drop i rs) ≡ 0
-index-hit id rs i h e = ap (indexOf id) (drop-cons rs i noRow h) ∙ index-here id (getD rs i noRow) (drop (suc i) rs) e
+pub index-hit : (id : ℕ) (ids : List ℕ) (i : ℕ) → i < length ids → getD ids i 0 ≡ id → indexIn id (drop i ids) ≡ 0
+unfolding indexIn
+index-hit id ids i h e = rw (drop-cons ids i 0, eq-eqb (getD ids i 0) id e)
 
-pub index-pass : (id : ℕ) (rs : List Row) (i : ℕ) → i < length rs → getD rs i noRow .id .0 ≢ id → indexOf id (drop i rs) ≡ suc (indexOf id (drop (i + 1) rs))
-index-pass id rs i h n = rw (add-one i) (ap (indexOf id) (drop-cons rs i noRow h) ∙ index-later id (getD rs i noRow) (drop (suc i) rs) n)
+pub index-pass : (id : ℕ) (ids : List ℕ) (i : ℕ) → i < length ids → getD ids i 0 ≢ id → indexIn id (drop i ids) ≡ suc (indexIn id (drop (i + 1) ids))
+unfolding indexIn
+index-pass id ids i h n = rw (add-one i, drop-cons ids i 0, ne-eqb (getD ids i 0) id n)
 
-pub index-end : (id : ℕ) (rs : List Row) (i : ℕ) → length rs ≤ i → indexOf id (drop i rs) ≡ 0
-index-end id rs i h = ap (indexOf id) (drop-of-length-le rs {i = i} h) ∙ index-none id
+pub index-end : (id : ℕ) (ids : List ℕ) (i : ℕ) → length ids ≤ i → indexIn id (drop i ids) ≡ 0
+unfolding indexIn
+index-end id ids i h = rw (drop-of-length-le ids {i = i} h)
+
+-- ---- the rows' ids
+
+ids-at : (rs : List Row) (i : ℕ) → i < length rs → getD (idsOf rs) i 0 ≡ getD rs i noRow .id .0
+ids-at [] i h = absurd (omega arith)
+ids-at (r ∷ rs) zero h = refl
+ids-at (r ∷ rs) (suc i) h = ids-at rs i (omega arith)
+
+-- the ids of the rows passed are noted, and one more is
+pub ids-more : (ids : List ℕ) (rs : List Row) (i : ℕ) → i < length ids → i < length rs → take i ids ≡ take i (idsOf rs)
+    → take (i + 1) (set ids i (getD rs i noRow .id .0)) ≡ take (i + 1) (idsOf rs)
+ids-more ids rs i h g e =
+    let n : i < length (idsOf rs) = omega (arith, ids-length rs) in
+    rw (add-one i, take-suc-set ids i (getD rs i noRow .id .0) h, take-suc (idsOf rs) i 0 n, ids-at rs i g, e)
+
+pub ids-all : (ids : List ℕ) (rs : List Row) (i : ℕ) → length ids ≤ i → length rs ≤ i → take i ids ≡ take i (idsOf rs) → ids ≡ idsOf rs
+ids-all ids rs i h g e =
+    let n : length (idsOf rs) ≤ i = omega (arith, ids-length rs) in
+    sym (take-all i ids h) ∙ e ∙ take-all i (idsOf rs) n
 
 -- ---- whether an id is missing, and whether ids are distinct
 
@@ -65,23 +88,6 @@ pub distinct-end : (b : Bool) (ids : List ℕ) (i : ℕ) → length ids ≤ i �
 unfolding distinctIn
 distinct-end b ids i h = and-end b (distinctIn (drop i ids)) (rw (drop-of-length-le ids {i = i} h))
 
--- eight rows have eight ids
-abbrev idAt : List Row → ℕ → ℕ
-idAt rs k = getD rs k noRow .id .0
-
-pub eight-ids : (rs : List Row) → length rs ≡ 8
-    → idAt rs 0 ∷ idAt rs 1 ∷ idAt rs 2 ∷ idAt rs 3 ∷ idAt rs 4 ∷ idAt rs 5 ∷ idAt rs 6 ∷ idAt rs 7 ∷ [] ≡ idsOf rs
-eight-ids [] h = absurd (omega arith)
-eight-ids (a ∷ []) h = absurd (omega arith)
-eight-ids (a ∷ b ∷ []) h = absurd (omega arith)
-eight-ids (a ∷ b ∷ c ∷ []) h = absurd (omega arith)
-eight-ids (a ∷ b ∷ c ∷ d ∷ []) h = absurd (omega arith)
-eight-ids (a ∷ b ∷ c ∷ d ∷ e ∷ []) h = absurd (omega arith)
-eight-ids (a ∷ b ∷ c ∷ d ∷ e ∷ f ∷ []) h = absurd (omega arith)
-eight-ids (a ∷ b ∷ c ∷ d ∷ e ∷ f ∷ g ∷ []) h = absurd (omega arith)
-eight-ids (a ∷ b ∷ c ∷ d ∷ e ∷ f ∷ g ∷ k ∷ []) h = refl
-eight-ids (a ∷ b ∷ c ∷ d ∷ e ∷ f ∷ g ∷ k ∷ l ∷ rs) h = absurd (omega arith)
-
 -- ---- the sums over sessions, and that each row has five messages
 
 pub held-at : (rs : List Row) (i : ℕ) → i < length rs → heldSum (drop i rs) ≡ ofSession heldOf (getD rs i noRow) + heldSum (drop (i + 1) rs)
@@ -110,26 +116,19 @@ pub five-each : (rs : List Row) → FiveBelow (length rs) rs → FiveEach rs
 five-each [] f = tt
 five-each (r ∷ rs) f = (f 0 (omega arith), five-each rs (λ k h. f (suc k) (omega arith)))
 
--- ---- the sum of shares
+-- ---- the lowest free id: the numbers from k to 255 are left to try
 
-pub shares-at : (rs : List Row) (i : ℕ) → i < length rs → sharesIn (drop i rs) ≡ shareOf (getD rs i noRow) + sharesIn (drop (i + 1) rs)
-unfolding sharesIn
-shares-at rs i h = rw (add-one i, drop-cons rs i noRow)
+pub lowest-found : (k : ℕ) (ids : List ℕ) → k < 256 → indexIn k ids ≡ length ids → lowestIn (256 - k) k ids ≡ k
+unfolding lowestIn
+lowest-found k ids h e = let z : 256 - k ≡ suc (255 - k) = omega arith in rw (z, eq-eqb (indexIn k ids) (length ids) e)
 
-pub shares-end : (rs : List Row) (i : ℕ) → length rs ≤ i → sharesIn (drop i rs) ≡ 0
-unfolding sharesIn
-shares-end rs i h = rw (drop-of-length-le rs {i = i} h)
-
--- ---- the lowest free id: the ids from k to 255 are left to try
-
-pub lowest-found : (k : ℕ) (rs : List Row) → k < 256 → indexOf k rs ≡ length rs → lowestFree (256 - k) k rs ≡ k
-lowest-found k rs h e = let z : 256 - k ≡ suc (255 - k) = omega arith in rw z (lowest-here (255 - k) k rs e)
-
-pub lowest-pass : (k : ℕ) (rs : List Row) → k < 256 → indexOf k rs ≢ length rs → lowestFree (256 - k) k rs ≡ lowestFree (256 - (k + 1)) (k + 1) rs
-lowest-pass k rs h e =
+pub lowest-pass : (k : ℕ) (ids : List ℕ) → k < 256 → indexIn k ids ≢ length ids → lowestIn (256 - k) k ids ≡ lowestIn (256 - (k + 1)) (k + 1) ids
+unfolding lowestIn
+lowest-pass k ids h e =
     let z : 256 - k ≡ suc (255 - k) = omega arith in
     let y : 256 - suc k ≡ 255 - k = omega arith in
-    rw (add-one k, z, y) (lowest-later (255 - k) k rs e)
+    rw (add-one k, z, y, ne-eqb (indexIn k ids) (length ids) e)
 
-pub lowest-end : (k : ℕ) (rs : List Row) → 256 ≤ k → lowestFree (256 - k) k rs ≡ 0
-lowest-end k rs h = let z : 256 - k ≡ 0 = omega arith in rw z (lowest-none k rs)
+pub lowest-end : (k : ℕ) (ids : List ℕ) → 256 ≤ k → lowestIn (256 - k) k ids ≡ 0
+unfolding lowestIn
+lowest-end k ids h = let z : 256 - k ≡ 0 = omega arith in rw z

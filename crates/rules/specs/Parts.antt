@@ -1,14 +1,19 @@
 -- Names for parts of the link's state rules that have a function of their own here. Assumes nothing.
-use Prim.Native.Nat.{ℕ, _+_}
+use Prim.Native.Nat.{ℕ, zero, suc, _+_, _≤_}
+use mathlib.Core.Path.{_≡_}
 use mathlib.Core.Bool.{Bool, true, _&&_, _||_, not}
 use mathlib.Core.List.{List, [], _∷_}
 use lib.Dec.{eqb}
+use lib.ListN.{length}
 use Rattle.numbers.specs.Bytes.{pick}
 use Rattle.blocks.specs.Map.{heldBy}
 use Rattle.session.specs.declared.Reassembly.{Reassembly}
 use Rattle.session.specs.declared.Row.{Row}
 use Rattle.session.specs.Decide.{needOf, heldOf, shareOf}
-use Rattle.link.specs.State.{all, allFrom, ownerOf, roomFits, versionAllowed, unsettledFits, messageFits, freeFits}
+use Rattle.link.specs.Pages.{FiveEach}
+use Rattle.link.specs.declared.Link.{Link}
+use Rattle.rules.specs.declared.Overview.{Overview}
+use Rattle.link.specs.State.{all, allFrom, ownerOf, sharesIn, roomFits, versionAllowed, unsettledFits, messageFits, freeFits}
 
 -- no message is open
 abbrev pub noneLive : List Reassembly → Bool
@@ -22,6 +27,16 @@ sessionFits major r = roomFits r && (versionAllowed major (r .version) && (unset
 abbrev pub idsOf : List Row → List ℕ
 idsOf [] = []
 idsOf (r ∷ rs) = r .id .0 ∷ idsOf rs
+
+-- where an id stands; the number of ids if it is not there
+unfoldable pub indexIn : ℕ → List ℕ → ℕ
+indexIn number [] = 0
+indexIn number (id ∷ ids) = pick (eqb id number) 0 (suc (indexIn number ids))
+
+-- the lowest of so many numbers from k on that is no id; 0 if each is one
+unfoldable pub lowestIn : ℕ → ℕ → List ℕ → ℕ
+lowestIn zero k ids = 0
+lowestIn (suc n) k ids = pick (eqb (indexIn k ids) (length ids)) k (lowestIn n (suc k) ids)
 
 -- no id is this one
 abbrev pub missingIn : ℕ → List ℕ → Bool
@@ -54,3 +69,21 @@ heldSum (r ∷ rs) = ofSession heldOf r + heldSum rs
 unfoldable pub shareSum : List Row → ℕ
 shareSum [] = 0
 shareSum (r ∷ rs) = ofSession shareOf r + shareSum rs
+
+-- what one pass over the rows of a link finds: whether they fit, what they hold and share, their ids. Rows, messages and map have their lengths.
+pub record Summed (l : Link) (fit : Bool) (held shared : ℕ) (ids : List ℕ) : Type 0 where
+  pub fits : fit ≡ allFrom 0 (rowSound (l .version .major) (l .owners)) (l .rows)
+  pub holds : held ≡ heldSum (l .rows)
+  pub most : held ≤ 671088640
+  pub shares : shared ≡ shareSum (l .rows)
+  pub bound : shared ≤ 671088640
+  pub names : ids ≡ idsOf (l .rows)
+  pub eight : length (l .rows) ≡ 8
+  pub five : FiveEach (l .rows)
+
+-- what a survey of a link within the rules tells
+pub record Seen (l : Link) (v : Overview) : Type 0 where
+  pub shares : v .shared ≡ sharesIn (l .rows)
+  pub names : v .ids ≡ idsOf (l .rows)
+  pub bound : v .shared ≤ 671088640
+  pub eight : length (l .rows) ≡ 8

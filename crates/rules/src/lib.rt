@@ -1,16 +1,16 @@
 // The link's state rules, in code: refusal 10 of document 01, and what a call looks up in the table of rows.
 // It reads the state and changes nothing; it knows no frame and no pool but its length.
+// The link is handed whole to one function, `survey`, which goes over the rows once: each copy of it is 1,480 bytes.
 ghost use mathlib.Core.Path.{_≡_};
 ghost use Prim.Native.Nat.{ℕ, _<_, _≤_, min};
-ghost use mathlib.Core.Bool.{_||_};
+ghost use mathlib.Core.Bool.{true, _||_};
 ghost use lib.Dec.{eqb};
 ghost use lib.ListN.{length, drop};
 ghost use Rattle.numbers.specs.Bytes.{pick};
 ghost use Rattle.session.specs.Rules.{isRunning};
 ghost use Rattle.session.specs.Decide.{heldOf, shareOf};
-ghost use Rattle.link.specs.Pages.{FiveEach};
-ghost use Rattle.link.specs.State.{allFrom, indexOf, sharesIn, lowestFree, settingsFit, roomFits, versionAllowed, serviceAt, messageFits, unsettledFits, freeFits, rulesHold, grantFits, guardOf};
-ghost use Rattle.rules.specs.Parts.{noneLive, sessionFits, idsOf, missingIn, distinctIn, holdsNeed, openFit, rowSound, ofSession, heldSum, shareSum};
+ghost use Rattle.link.specs.State.{allFrom, settingsFit, roomFits, versionAllowed, serviceAt, messageFits, unsettledFits, freeFits, grantFits, guardOf};
+ghost use Rattle.rules.specs.Parts.{noneLive, sessionFits, idsOf, indexIn, lowestIn, missingIn, distinctIn, holdsNeed, openFit, rowSound, ofSession, shareSum, Summed, Seen};
 use blocks::Owner;
 use frame::SessionId;
 use link::Grant;
@@ -22,14 +22,14 @@ use session::Row;
 // Each place's service number.
 const SERVICES: [u8; 5] = [0, 7, 10, 11, 15];
 
-// Where the first row with an id stands; 8 if none has it.
-pub fn index_of(rows: [Row; 8], id: SessionId) -> usize
-    ensures { λ r. ⌜ (r ≡ indexOf (id .0) rows) × (r ≤ 8) ⌝ }
+// Where an id stands among the rows' ids; 8 if no row has it.
+pub fn index_of(ids: [u8; 8], id: SessionId) -> usize
+    ensures { λ r. ⌜ (r ≡ indexIn (id .0) ids) × (r ≤ 8) ⌝ }
 {
     let number = id.0;
     let mut i: usize = 0;
     while i < 8 {
-        if rows[i].id.0 == number {
+        if ids[i] == number {
             return i;
         }
         i += 1;
@@ -37,28 +37,14 @@ pub fn index_of(rows: [Row; 8], id: SessionId) -> usize
     i
 }
 
-// The sum over sessions of the larger of held and guaranteed.
-pub fn shares(rows: [Row; 8]) -> usize
-    ensures { λ r. ⌜ (r ≡ sharesIn rows) × (r ≤ 671088640) ⌝ }
-{
-    let mut sum: usize = 0;
-    let mut at: usize = 0;
-    while at < 8 {
-        let row = rows[at];
-        sum += session::share(row);
-        at += 1;
-    }
-    sum
-}
-
 // The lowest id from 1 to 255 that no row has; 0 if each has a row, which eight rows cannot bring about.
-pub fn lowest_free(rows: [Row; 8]) -> SessionId
-    ensures { λ r. ⌜ r .0 ≡ lowestFree 255 1 rows ⌝ }
+pub fn lowest_free(ids: [u8; 8]) -> SessionId
+    ensures { λ r. ⌜ r .0 ≡ lowestIn 255 1 ids ⌝ }
 {
     let mut number: usize = 1;
     while number < 256 {
         let id = number as u8;
-        if index_of(rows, SessionId(id)) == 8 {
+        if index_of(ids, SessionId(id)) == 8 {
             return SessionId(id);
         }
         number += 1;
@@ -78,22 +64,6 @@ fn grant_fits(grant: Grant) -> bool
     ensures { λ r. ⌜ r ≡ grantFits grant ⌝ }
 {
     (grant.guarantee <= grant.cap) & (grant.cap <= 256)
-}
-
-// The rows' ids. Each index is a number, so that the compiler reads eight bytes and copies no row.
-fn ids_of(rows: [Row; 8]) -> [u8; 8]
-    ensures { λ r. ⌜ r ≡ idsOf rows ⌝ }
-{
-    [
-        rows[0].id.0,
-        rows[1].id.0,
-        rows[2].id.0,
-        rows[3].id.0,
-        rows[4].id.0,
-        rows[5].id.0,
-        rows[6].id.0,
-        rows[7].id.0,
-    ]
 }
 
 // Whether no id from a place on is this one.
@@ -243,7 +213,7 @@ fn session_fits(major: u8, row: Row) -> bool
             & (unsettled_fits(row) & messages_fit(row, messages)))
 }
 
-// An open message holds as many blocks as it needs. What is not open is not looked up in the map: `rules_hold` says why.
+// An open message holds as many blocks as it needs. What is not open is not looked up in the map: `survey` says why.
 fn holds_need(map: &[u8], owner: u8, message: Reassembly) -> bool
     ensures { λ r. ⌜ r ≡ holdsNeed (now (map .entry)) owner message ⌝ }
 {
@@ -305,44 +275,57 @@ struct Sums {
     fit: bool,
     held: usize,
     shared: usize,
+    ids: [u8; 8],
 }
 
-fn sum_rows(major: u8, map: &[u8], rows: [Row; 8]) -> Sums
-    ensures { λ r. ⌜ (r .fit ≡ allFrom 0 (rowSound major (now (map .entry))) rows) × ((r .held ≡ heldSum rows) × ((r .held ≤ 671088640) × ((r .shared ≡ shareSum rows) × ((length rows ≡ 8) × FiveEach rows)))) ⌝ }
+// One pass over the rows. The map has 256 entries, for the caller's proof.
+fn sum_rows(link: Link) -> Sums
+    ensures { λ r. ⌜ Summed link (r .fit) (r .held) (r .shared) (r .ids) ⌝ }
 {
     let mut fit = true;
     let mut held: usize = 0;
     let mut shared: usize = 0;
+    let mut ids = [0u8; 8];
     let mut i: usize = 0;
     while i < 8 {
-        let row = rows[i];
-        fit = fit & row_fits(major, map, i, row);
+        let row = link.rows[i];
+        fit = fit & row_fits(link.version.major, &link.owners, i, row);
         held += held_of(row);
         shared += share_of(row);
+        ids[i] = row.id.0;
         i += 1;
     }
     Sums {
         fit: fit,
         held: held,
         shared: shared,
+        ids: ids,
     }
 }
 
-// The state rules. If each open message holds what it needs, and these blocks and the free ones are the whole map, no other owner has any.
-fn rules_hold(link: Link) -> bool
-    ensures { λ r. ⌜ r ≡ rulesHold link ⌝ }
-{
-    let rows = link.rows;
-    let ids = ids_of(rows);
-    let sums = sum_rows(link.version.major, &link.owners, rows);
-    let free = blocks::free_count(&link.owners);
-    distinct(ids) & (sums.fit & ((sums.shared <= 256) & (sums.held + free == 256)))
+// What a call needs to know of all rows.
+pub struct Overview {
+    // refusal 10 is not earned
+    pub fit: bool,
+    // the sum over sessions of the larger of held and guaranteed
+    pub shared: usize,
+    // the rows' ids
+    pub ids: [u8; 8],
 }
 
-// Whether refusal 10 is not earned: the pool's length, the settings, the offer and the state are as they must be.
-pub fn guard(link: Link, pool: usize, grant: Grant) -> bool
-    ensures { λ r. ⌜ r ≡ guardOf link pool grant ⌝ }
+// Whether refusal 10 is earned: the pool's length, the settings, the offer and the state are as they must be, or not. If each open message holds
+// what it needs, and these blocks and the free ones are the whole map, no other owner has any.
+pub fn survey(link: Link, pool: usize, grant: Grant) -> Overview
+    ensures { λ r. ⌜ (r .fit ≡ guardOf link pool grant) × ((r .shared ≡ shareSum (link .rows)) × ((r .ids ≡ idsOf (link .rows)) × (r .fit ≡ true → Seen link r))) ⌝ }
 {
     let version = link.version;
-    (pool == 65536) & (settings_fit(version, link.mtu) & (grant_fits(grant) & rules_hold(link)))
+    let sums = sum_rows(link);
+    let free = blocks::free_count(&link.owners);
+    let ids = sums.ids;
+    let sound = distinct(ids) & (sums.fit & ((sums.shared <= 256) & (sums.held + free == 256)));
+    Overview {
+        fit: (pool == 65536) & (settings_fit(version, link.mtu) & (grant_fits(grant) & sound)),
+        shared: sums.shared,
+        ids: ids,
+    }
 }

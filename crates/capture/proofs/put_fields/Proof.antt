@@ -1,21 +1,22 @@
 -- `capture::put_fields` meets its contract. Two numbers are put and eight bytes stored before them: `Fields` has that as one law.
 -- Assumes nothing.
-use mathlib.Core.Path.{_∙_}
+use mathlib.Core.Path.{_∙_, ap}
+use Rattle.frame.specs.declared.Header.{Header}
 use native.Mathlib.Omega.{arith}
 use lib.ListN.{length-set}
-use Rattle.capture.proofs.Fields.{fields-put}
+use Rattle.capture.proofs.Fields.{fields-put, header-own}
 use borrow.Author.Needs.{needs}
 use Rattle.capture.proofs.put_fields.Statement.{statement}
 use Rattle.capture.proofs.put_fields.Tie as tie
 
-put-be4-requires : tie.Need-put-be4-requires
-put-be4-requires c κs = search needs
+put-message-requires : tie.Need-put-message-requires
+put-message-requires c κs = let p = (c .before .before .before .pre) in (p .1 .1 .0, ap (λ (h : Header). h .message) (p .1 .1 .1))
 
 be4-requires : tie.Need-be4-requires
 be4-requires c κs = search needs
 
-put-be4-requires-2 : tie.Need-put-be4-requires-2
-put-be4-requires-2 c κs = search needs
+put-be4-requires : tie.Need-put-be4-requires
+put-be4-requires c κs = search needs
 
 slice-write-fields : tie.Need-slice-write-fields
 slice-write-fields c = search needs
@@ -54,20 +55,20 @@ slice-write-fields-8 : tie.Need-slice-write-fields-8
 slice-write-fields-8 c = simp length-set (omega arith)
 
 same-length : tie.Need-same-length
-same-length c = simp length-set ((c .before .before .before .before .before .before .put-be42 .kept .0) ∙ (c .before .before .before .before .before .before .before .before .before .before .before .put-be4 .kept .0))
+same-length c = simp length-set ((c .before .before .before .before .before .before .put-be4 .kept .0) ∙ (c .before .before .before .before .before .before .before .before .before .before .before .put-message .kept .1 .1 .0))
 
 returns : tie.Need-returns
 returns c =
     let a = (c .before .before .before .before .before .before .before .before .before .before .before .before .before .before .before .args) in
-    fields-put (a .bytes .now) (a .header) (a .start) (c .before .before .before .flag-byte .result) (c .before .before .before .before .before .before .before .be4 .result) (a .fields .now) _ _ ((c .before .before .before .before .before .before .before .before .before .before .before .before .before .before .before .pre) .1 .1) (c .before .before .before .flag-byte .ensures) (c .before .before .before .before .before .before .before .be4 .ensures) ((c .before .before .before .before .before .before .before .before .before .before .before .before .before .before .before .pre) .1 .0) (c .before .before .before .before .before .before .before .before .before .before .before .put-be4 .kept .0) (c .before .before .before .before .before .before .put-be42 .kept .0) (c .before .before .before .before .before .before .before .before .before .before .before .put-be4 .ensures) (c .before .before .before .before .before .before .put-be42 .ensures)
+    fields-put (a .bytes .now) (a .header) (a .start) (c .before .before .before .flag-byte .result) (c .before .before .before .before .before .before .before .be4 .result) (a .fields .now) _ _ (header-own (a .bytes .now) (a .header) (c .before .before .before .before .before .before .before .before .before .before .before .before .before .before .before .pre .1 .1 .1)) (c .before .before .before .flag-byte .ensures) (c .before .before .before .before .before .before .before .be4 .ensures) ((c .before .before .before .before .before .before .before .before .before .before .before .before .before .before .before .pre) .1 .0) (c .before .before .before .before .before .before .before .before .before .before .before .put-message .kept .1 .1 .0) (c .before .before .before .before .before .before .put-be4 .kept .0) (c .before .before .before .before .before .before .before .before .before .before .before .put-message .ensures) (c .before .before .before .before .before .before .put-be4 .ensures)
 
 pub put-fields-spec : {M : Type 1} → statement M
 put-fields-spec =
     tie.close
     (tie.spec
-    put-be4-requires
+    put-message-requires
     be4-requires
-    put-be4-requires-2
+    put-be4-requires
     slice-write-fields
     flag-byte-requires
     slice-write-fields-2

@@ -13,7 +13,8 @@ use denote.Enum.Declared.{tagOf}
 use Rattle.frame.proofs.Reading.{the-type}
 use Rattle.frame.specs.declared.Header.{Header}
 use Rattle.frame.specs.declared.Extent.{Extent}
-use Rattle.frame.proofs.Answers.{is-frame, header-front}
+use Rattle.frame.proofs.Answers.{is-frame}
+use Rattle.capture.proofs.Fields.{header-there}
 use Rattle.frame.specs.declared.Reading.{Reading}
 use Rattle.frame.specs.declared.Reading.the-variants.{Frame, Refused, Short}
 use Rattle.capture.specs.Capture.{readingCode, ReadingFits, fieldBytes, left, leftBy, heard}
@@ -62,7 +63,7 @@ cast-put-fields c = omega (arith, subst ReadingFits (sym (c .before .before .bef
 put-fields-requires : tie.Need-put-fields-requires
 put-fields-requires c κs =
     let p = sym (c .before .before .before .before .before .before .read .ensures) ∙ (c .before .before .before .before .reading .given .1) in
-    (is-frame _ _ _ p .long, (omega arith, header-front _ _ _ p))
+    (is-frame _ _ _ p .long, (omega arith, header-there _ _ _ p))
 
 reading-code-requires-3 : tie.Need-reading-code-requires-3
 reading-code-requires-3 c κs = subst ReadingFits (sym (c .before .before .before .before .before .before .before .before .before .read .ensures) ∙ (c .before .before .before .before .before .before .before .reading .given .1)) (reading-fits (c .before .before .before .before .before .before .before .before .before .before .before .before .args .bytes .now))

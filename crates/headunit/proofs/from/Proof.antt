@@ -1,17 +1,17 @@
 -- `headunit::from` meets its contract.
 -- Assumes nothing.
+use mathlib.Core.Path.{ap}
+use Prim.Native.Nat.{ℕ}
 use borrow.Author.Needs.{needs}
 use Rattle.headunit.proofs.from.Statement.{statement}
 use Rattle.headunit.proofs.from.Tie as tie
-
-row-at-requires : tie.Need-row-at-requires
-row-at-requires c κs = search needs
 
 reply-version-requires : tie.Need-reply-version-requires
 reply-version-requires c κs = search needs
 
 returns : tie.Need-returns
-returns c = rw ((c .reply-version .ensures), (c .before .before .before .row-at .ensures))
+returns c = let a = (c .before .before .args) in
+    ap (λ (v : ℕ). record { version = v; service = a .service; session = a .row .id }) (c .reply-version .ensures)
 
 pub from-spec : {M : Type 1} → statement M
-from-spec = tie.close (tie.spec row-at-requires reply-version-requires returns)
+from-spec = tie.close (tie.spec reply-version-requires returns)

@@ -1,7 +1,7 @@
 -- `headunit::opened_old` meets its contract.
 -- Assumes nothing.
 use mathlib.Core.Path.{_∙_, ap}
-use Prim.Native.Nat.{ℕ, _-_}
+use Prim.Native.Nat.{ℕ}
 use native.Mathlib.Omega.{arith}
 use Rattle.numbers.specs.Numbers.{bytesBe}
 use Rattle.link.specs.declared.Link.{Link}
@@ -14,57 +14,36 @@ use Rattle.headunit.proofs.Laws.{opened-link}
 use borrow.Author.Needs.{needs}
 use Rattle.headunit.proofs.opened_old.Statement.{statement}
 use Rattle.headunit.proofs.opened_old.Tie as tie
-use Rattle.headunit.proofs.opened_old.Reads as reads
-use Rattle.headunit.proofs.opened_old.Lts as lts
-use Rattle.headunit.proofs.least.Reads as least-reads
-use Rattle.headunit.proofs.old_version.Reads as old-version-reads
-use Rattle.headunit.proofs.replies.put_hash.Reads as put-hash-reads
-use Rattle.headunit.proofs.with_row.Reads as with-row-reads
-use Rattle.rules.proofs.lowest_free.Reads as lowest-free-reads
-use Rattle.session.proofs.Row.opened.Reads as opened-reads
 
--- src/lib.rt:432:9
-lowest-free-requires : tie.Need-lowest-free-requires
-lowest-free-requires c κs = search needs
-
--- src/lib.rt:433:59
 old-version-requires : tie.Need-old-version-requires
 old-version-requires c κs = search needs
 
--- src/lib.rt:433:9
 opened-requires : tie.Need-opened-requires
 opened-requires c κs = search needs
 
--- src/lib.rt:434:32
 least-requires : tie.Need-least-requires
 least-requires c κs = search needs
 
--- src/lib.rt:435:9
 put-hash-requires : tie.Need-put-hash-requires
-put-hash-requires c κs = ((c .before .before .before .before .before .before .before .pre .1 .1 .0), (rw (c .before .least .ensures) (omega (arith, (c .before .before .before .before .before .before .before .pre .1 .1 .1))), (rw (c .before .least .ensures) (omega arith), rpc-listed)))
+put-hash-requires c κs = ((c .before .before .before .before .before .pre .1 .1 .0), (rw (c .before .least .ensures) (omega (arith, (c .before .before .before .before .before .pre .1 .1 .1 .0))), (rw (c .before .least .ensures) (omega arith), rpc-listed)))
 
--- src/lib.rt:436:59
 with-row-requires : tie.Need-with-row-requires
-with-row-requires c κs = (c .before .before .before .before .before .before .before .before .before .before .pre .0)
+with-row-requires c κs = (c .before .before .before .before .before .before .before .before .pre .0)
 
--- src/lib.rt:427:1
 same-length : tie.Need-same-length
 same-length c = search needs
 
--- src/lib.rt:427:1
 returns : tie.Need-returns
-returns c =
-    let a = (c .before .before .before .before .before .before .before .before .before .before .before .args) in
-    λ p. ap (repliedWith answer.Acked (a .consumed) (c .with-row .result) p) ((c .before .before .before .put-hash .ensures) ∙ ap (λ (v : ℕ). sentOf (replyBytes v rpc 0x02 ((c .before .before .before .before .before .before .before .before .lowest-free .result) .0) 1 (bytesBe 4 (a .grant .hash))) (a .out .now)) (c .before .before .before .before .before .least .ensures)
-    ∙ ap (λ (k : ℕ). sentOf (oldAck (a .link .version .major) k (a .grant .hash)) (a .out .now)) (c .before .before .before .before .before .before .before .before .lowest-free .ensures))
+returns c = let a = (c .before .before .before .before .before .before .before .before .before .args) in
+    λ p. ap (repliedWith answer.Acked (a .consumed) (c .with-row .result) p) ((c .before .before .before .put-hash .ensures) ∙ ap (λ (v : ℕ). sentOf (replyBytes v rpc 0x02 (a .id .0) 1 (bytesBe 4 (a .grant .hash))) (a .out .now)) (c .before .before .before .before .before .least .ensures)
+    ∙ ap (λ (k : ℕ). sentOf (oldAck (a .link .version .major) k (a .grant .hash)) (a .out .now)) (c .before .before .before .before .before .before .before .before .before .pre .1 .1 .1 .1))
     ∙ ap (λ (l : Link). repliedWith answer.Acked (a .consumed) l p (sentOf (oldAck (a .link .version .major) (lowestFree 255 1 (a .link .rows)) (a .grant .hash)) (a .out .now)))
-    (opened-link (a .link) (a .i) (c .before .before .before .before .before .before .before .before .lowest-free .result) _ _ (a .grant) _ _ (c .before .before .before .before .before .before .before .before .before .before .before .pre .1 .0) (c .before .before .before .before .before .before .before .before .lowest-free .ensures) (c .before .before .before .before .before .before .before .old-version .ensures) (c .before .before .before .before .before .before .opened .ensures) (c .with-row .ensures))
+    (opened-link (a .link) (a .i) (a .id) _ _ (a .grant) _ _ (c .before .before .before .before .before .before .before .before .before .pre .1 .0) (c .before .before .before .before .before .before .before .before .before .pre .1 .1 .1 .1) (c .before .before .before .before .before .before .before .old-version .ensures) (c .before .before .before .before .before .before .opened .ensures) (c .with-row .ensures))
 
 pub opened-old-spec : {M : Type 1} → statement M
 opened-old-spec =
     tie.close
     (tie.spec
-    lowest-free-requires
     old-version-requires
     opened-requires
     least-requires

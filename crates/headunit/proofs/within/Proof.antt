@@ -1,43 +1,100 @@
 -- `headunit::within` meets its contract.
 -- Assumes nothing.
-use mathlib.Core.Path.{sym, subst}
-use Prim.Native.Nat.{_-_}
-use lib.ListN.{length, getD}
+use Prim.Native.Nat.{ℕ, _-_}
+use mathlib.Core.Path.{_≡_, ap, sym, subst, _∙_}
+use native.Mathlib.Omega.{arith}
+use lib.ListN.{length, getD, length-map}
 use Rattle.session.specs.Rows.{noRow, messageAt}
-use Rattle.session.specs.Decide.{placeOf}
-use Rattle.headunit.specs.Unit.{Roomy}
-use Rattle.headunit.proofs.Laws.{applied-by, decision-roomy}
+use Rattle.session.specs.Decide.{placeOf, shareOf}
+use Rattle.link.specs.Call.{decisionOf}
+use Rattle.headunit.specs.Steps.{decisionBy, Roomy}
+use Rattle.headunit.proofs.Laws.{decision-roomy}
+use Rattle.headunit.proofs.Parts.{decision-by, case-is, link-is, within-is}
 use borrow.Author.Needs.{needs}
 use Rattle.headunit.proofs.within.Statement.{statement}
 use Rattle.headunit.proofs.within.Tie as tie
-use Rattle.headunit.proofs.within.Reads as reads
-use Rattle.headunit.proofs.within.Lts as lts
-use Rattle.headunit.proofs.apply.Reads as apply-reads
-use Rattle.headunit.proofs.decide.Reads as decide-reads
 
--- src/lib.rt:505:9
+mul-row : tie.Need-mul-row
+mul-row c = search needs
+
+element-copy-out-row : tie.Need-element-copy-out-row
+element-copy-out-row c = search needs
+
+others-requires : tie.Need-others-requires
+others-requires c κs = (c .before .before .before .before .pre .1 .1 .1)
+
 decide-requires : tie.Need-decide-requires
-decide-requires c κs = (c .before .before .before .pre .0 .0)
+decide-requires c κs = search needs
 
--- src/lib.rt:506:5
-apply-requires : tie.Need-apply-requires
-apply-requires c κs =
-    let a = (c .before .before .before .before .before .before .args) in
-    ((c .before .before .before .before .before .before .pre .0), subst (Roomy (length (a .out .now)) (length (a .payload .now)) (messageAt (getD (a .link .rows) (a .i) noRow) (placeOf (a .header .service .0)) .total)) (sym (c .before .before .decide .ensures)) (decision-roomy (a .link) (a .i) (a .header) (a .payload .now) (length (a .out .now)) (c .before .before .before .before .before .before .pre .1)))
+place-of-requires : tie.Need-place-of-requires
+place-of-requires c κs = search needs
 
--- src/lib.rt:501:1
+from-requires : tie.Need-from-requires
+from-requires c κs = search needs
+
+mul-t20 : tie.Need-mul-t20
+mul-t20 c = search needs
+
+element-copy-out-t29 : tie.Need-element-copy-out-t29
+element-copy-out-t29 c = search needs
+
+owner-requires : tie.Need-owner-requires
+owner-requires c κs = search needs
+
+tell-requires : tie.Need-tell-requires
+tell-requires c κs = let a = (c .before .before .before .before .before .before .before .before .before .before .before .before .before .before .before .args) in
+    let l = a .t1 in
+    let r = getD (l .rows) (a .i) noRow in
+    let decided : (c .before .before .before .before .before .before .before .before .before .decide .result) ≡ decisionOf l (a .i) (a .header) (a .payload .now) (length (a .out .now)) = (c .before .before .before .before .before .before .before .before .before .decide .ensures) ∙ ap (λ (n : ℕ). decisionBy (l .version .major) (l .mtu) r n (a .header) (a .payload .now) (length (a .out .now))) ((c .before .before .before .before .before .before .before .before .before .before .others .ensures) ∙ ap (λ (n : ℕ). n - shareOf r) (c .before .before .before .before .before .before .before .before .before .before .before .before .before .before .before .pre .1 .1 .0)) ∙ decision-by l (a .i) (a .header) (a .payload .now) (length (a .out .now)) in
+    let roomy : Roomy (length (a .out .now)) (length (a .payload .now)) (messageAt r (placeOf (a .header .service .0)) .total) (c .before .before .before .before .before .before .before .before .before .decide .result) = subst (Roomy (length (a .out .now)) (length (a .payload .now)) (messageAt r (placeOf (a .header .service .0)) .total)) (sym decided) (decision-roomy l (a .i) (a .header) (a .payload .now) (length (a .out .now)) (c .before .before .before .before .before .before .before .before .before .before .before .before .before .before .before .pre .1 .0)) in
+    (((c .before .before .before .before .before .before .before .before .before .before .before .before .before .before .before .pre .0 .1 .0), (rw (c .before .before .before .before .before .before .before .from .ensures) (c .before .before .before .before .before .before .before .before .before .before .before .before .before .before .before .pre .0 .1 .1 .0), (rw (c .before .before .before .before .before .before .before .from .ensures) (c .before .before .before .before .before .before .before .before .before .before .before .before .before .before .before .pre .0 .1 .1 .1 .0), rw (c .before .before .before .before .before .before .before .from .ensures) (c .before .before .before .before .before .before .before .before .before .before .before .before .before .before .before .pre .0 .1 .1 .1 .1)))), subst (λ (n : ℕ). Roomy (length (a .out .now)) (length (a .payload .now)) (messageAt r n .total) (c .before .before .before .before .before .before .before .before .before .decide .result)) (sym (c .before .before .before .before .before .before .before .before .place-of .ensures .0)) roomy)
+
+row-after-requires : tie.Need-row-after-requires
+row-after-requires c κs = search needs
+
+mul-t20-2 : tie.Need-mul-t20-2
+mul-t20-2 c = omega (arith, (c .before .before .before .before .before .before .before .before .before .before .before .before .before .before .before .before .before .before .before .before .before .pre .0 .0))
+
+element-set-from-link : tie.Need-element-set-from-link
+element-set-from-link c = (c .before .before .before .before .before .before .before .before .before .before .before .before .before .before .before .before .before .before .before .before .before .pre .0 .0)
+
+owners-after-requires : tie.Need-owners-after-requires
+owners-after-requires c κs = ((c .before .before .before .before .before .before .before .before .before .before .before .before .before .before .before .before .before .before .before .before .before .before .pre .0 .0), (c .before .before .before .before .before .before .before .before .before .before .before .before .before .before .before .place-of .ensures .1))
+
 same-length : tie.Need-same-length
 same-length c = search needs
 
--- src/lib.rt:501:1
 same-length-2 : tie.Need-same-length-2
 same-length-2 c = search needs
 
--- src/lib.rt:501:1
 returns : tie.Need-returns
-returns c =
-    let a = (c .before .before .before .before .before .before .before .before .before .before .before .args) in
-    applied-by (a .link) (a .i) (a .pool .now) (a .out .now) (a .header) (a .consumed) (a .payload .now) (a .grant) _ _ (sym (c .before .before .before .before .before .before .before .decide .ensures)) (c .before .before .before .before .apply .ensures)
+returns c = let a = (c .before .before .before .before .before .before .before .before .before .before .before .before .before .before .before .before .before .before .before .before .before .before .before .args) in
+    let l = a .t1 in
+    let r = getD (l .rows) (a .i) noRow in
+    let size : length (l .rows) ≡ 8 = sym (length-map (l .rows) _) ∙ (c .before .before .before .before .before .before .before .before .before .before .before .before .before .before .before .before .before .before .before .before .before .before .before .good .0 .1 .1 .1 .1 .0 .1 .0 .1) in
+    let decided : (c .before .before .before .before .before .before .before .before .before .before .before .before .before .before .before .before .before .decide .result) ≡ decisionOf l (a .i) (a .header) (a .payload .now) (length (a .out .now)) = (c .before .before .before .before .before .before .before .before .before .before .before .before .before .before .before .before .before .decide .ensures) ∙ ap (λ (n : ℕ). decisionBy (l .version .major) (l .mtu) r n (a .header) (a .payload .now) (length (a .out .now))) ((c .before .before .before .before .before .before .before .before .before .before .before .before .before .before .before .before .before .before .others .ensures) ∙ ap (λ (n : ℕ). n - shareOf r) (c .before .before .before .before .before .before .before .before .before .before .before .before .before .before .before .before .before .before .before .before .before .before .before .pre .1 .1 .0)) ∙ decision-by l (a .i) (a .header) (a .payload .now) (length (a .out .now)) in
+    within-is l (a .i) (a .header) (a .consumed) (a .grant) (a .payload .now) (a .pool .now) (a .out .now) (omega (arith, (c .before .before .before .before .before .before .before .before .before .before .before .before .before .before .before .before .before .before .before .before .before .before .before .pre .0 .0))) (c .before .before .before .before .before .before .before .before .before .before .before .before .before .before .before .before .before .decide .result) _ (c .before .before .before .before .before .before .before .tell .result) _ _ _ decided
+    (case-is l (a .i) (a .header) (a .consumed) (a .grant) (c .before .before .before .before .before .before .before .before .before .before .before .before .before .before .before .before .place-of .result) (c .before .before .before .before .before .before .before .before .before .before .before .before .before .before .before .from .result) (c .before .before .before .before .before .before .before .before .before .before .before .before .before .owner .result) (c .before .before .before .before .before .before .before .before .before .before .before .before .before .before .before .before .place-of .ensures .0) (c .before .before .before .before .before .before .before .before .before .before .before .before .before .before .before .from .ensures) (c .before .before .before .before .before .before .before .before .before .before .before .before .before .owner .ensures)) (c .before .before .before .before .before .before .before .tell .ensures)
+    (link-is l (a .i) (a .header) (a .consumed) (a .grant) (c .before .before .before .before .before .before .before .before .before .before .before .before .before .before .before .before .place-of .result) (c .before .before .before .before .before .before .before .before .before .before .before .before .before .before .before .before .before .decide .result) (c .before .before .row-after .result) (c .owners-after .result) (c .before .before .before .before .before .before .before .before .before .before .before .before .before .before .before .before .place-of .ensures .0) (c .before .before .row-after .ensures) (c .owners-after .ensures))
 
 pub within-spec : {M : Type 1} → statement M
-within-spec = tie.close (tie.spec decide-requires apply-requires same-length same-length-2 returns)
+within-spec =
+    tie.close
+    (tie.spec
+    mul-row
+    element-copy-out-row
+    others-requires
+    decide-requires
+    place-of-requires
+    from-requires
+    mul-t20
+    element-copy-out-t29
+    owner-requires
+    tell-requires
+    row-after-requires
+    mul-t20-2
+    element-set-from-link
+    owners-after-requires
+    same-length
+    same-length-2
+    returns)
