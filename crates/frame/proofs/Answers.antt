@@ -95,13 +95,10 @@ pub fault-front : (h : Header) (m : MessageId) → faultOf (withMessage h m) ≡
 unfolding faultOf
 fault-front h m = refl
 
--- what a frame is: its header has no fault and is that of its first 8 bytes but for the message id, its session id is the fourth byte, it takes header plus data size, and all of that is there
+-- what a frame is: its header has no fault, its session id is the fourth byte, it takes header plus data size, and all of that is there
 module _ (s : List ℕ) (h : Header) (e : Extent) (p : readOf s ≡ Frame h e) where
   pub frame-sound : faultOf h ≡ 0
   frame-sound = let q = is-frame s h e p in ap faultOf (q .header) ∙ fault-front (frontOf s) _ ∙ q .sound
-
-  pub header-front : h ≡ withMessage (frontOf s) (h .message)
-  header-front = let q = is-frame s h e p .header in q ∙ ap (withMessage (frontOf s)) (sym (ap (λ (k : Header). k .message) q))
 
   pub session-fourth : h .session .0 ≡ getD s 3 0
   unfolding frontOf

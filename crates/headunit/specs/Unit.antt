@@ -21,7 +21,6 @@ use Rattle.link.specs.declared.Answer.{Answer}
 use Rattle.link.specs.State.{settingsFit, createdLink}
 use Rattle.link.specs.Call.{After, Wish, old, new, bad}
 use Rattle.headunit.specs.declared.Called.{Called}
-use Rattle.headunit.specs.declared.replies.From.{From}
 use Rattle.headunit.specs.declared.Created.{Created}
 use Rattle.headunit.specs.declared.Wished.{Wished}
 use Rattle.headunit.specs.declared.Wished.the-variants as wished
@@ -64,12 +63,6 @@ wishFrom wished.Bad = bad
 -- a reply as all that a call leaves
 abbrev pub repliedWith : (ℕ → ℕ → Answer) → ℕ → Link → List ℕ → Sent → After
 repliedWith kind consumed l pool w = record { answer = kind consumed (w .count); link = l; pool = pool; out = w .out }
-
--- "Replies carry its id and version"
-abbrev pub fromOf : Link → ℕ → Header → From
-fromOf l i h =
-    let r = getD (l .rows) i noRow in
-    record { version = replyVersion (l .version .major) r; service = h .service; session = r .id }
 
 -- what a reply in row i needs: room, and a version and a service that a frame may have
 abbrev pub Serves : Link → ℕ → Header → List ℕ → Type 0
