@@ -20,7 +20,7 @@ ghost use Rattle.link.specs.declared.Link.{Link as State};
 ghost use Rattle.link.specs.State.{indexOf, ownerOf, sharesIn, guardOf, withRow, lowestFree};
 ghost use Rattle.link.specs.Reply.{oldAck, newAck};
 ghost use Rattle.link.specs.Call.{old, new, wishOfText, wishOf, opens, admits, oldVersion, notOpened, opened, openingBy, saidOf, decisionOf, applied, frameOf, callOf};
-ghost use Rattle.rules.specs.Parts.{Seen};
+ghost use Rattle.rules.specs.Parts.{Surveyed};
 ghost use Rattle.headunit.specs.Unit.{creationOf, leaves, wishFrom, Serves};
 ghost use Rattle.headunit.specs.Steps.{decisionBy, ownersAfter, fromRow, told, toldOf, Repliable, Roomy};
 use blocks::Owner;
@@ -336,7 +336,7 @@ fn is_opening(header: Header) -> bool
 // Whether there is a free row, and room for the guarantee.
 fn is_admitted(seen: Overview, grant: Grant) -> bool
     requires { ⌜ seen .shared ≤ 671088640 ⌝ }
-    ensures { λ r. ⌜ ((link : State) → Seen link seen → (r ≡ admits (link .rows) grant) × (r ≡ true → indexOf 0 (link .rows) < 8)) ⌝ }
+    ensures { λ r. ⌜ ((link : State) → Surveyed link seen → (r ≡ admits (link .rows) grant) × (r ≡ true → indexOf 0 (link .rows) < 8)) ⌝ }
 {
     let ids = seen.ids;
     let free = rules::index_of(ids, SessionId(0));
@@ -479,7 +479,7 @@ fn opened_new(
 
 // With an old version, where there is a row and room for the guarantee.
 fn open_old(link: Link, seen: Overview, consumed: usize, grant: Grant, out: &mut [u8]) -> Called
-    requires { ⌜ (128 ≤ length (now out)) × ((1 ≤ link .version .major) × Seen link seen) ⌝ }
+    requires { ⌜ (128 ≤ length (now out)) × ((1 ≤ link .version .major) × Surveyed link seen) ⌝ }
     ensures { λ r. ⌜ ((p : List ℕ) → leaves r p (now (out .exit)) ≡ openingBy link p (now (out .entry)) consumed grant old) ⌝ }
 {
     if !is_admitted(seen, grant) {
@@ -499,7 +499,7 @@ fn open_new(
     wish: Version,
     out: &mut [u8],
 ) -> Called
-    requires { ⌜ (128 ≤ length (now out)) × ((1 ≤ link .version .major) × Seen link seen) ⌝ }
+    requires { ⌜ (128 ≤ length (now out)) × ((1 ≤ link .version .major) × Surveyed link seen) ⌝ }
     ensures { λ r. ⌜ ((p : List ℕ) → leaves r p (now (out .exit)) ≡ openingBy link p (now (out .entry)) consumed grant (new wish)) ⌝ }
 {
     if !is_admitted(seen, grant) {
@@ -519,7 +519,7 @@ fn open(
     grant: Grant,
     out: &mut [u8],
 ) -> Called
-    requires { ⌜ (128 ≤ length (now out)) × ((1 ≤ link .version .major) × Seen link seen) ⌝ }
+    requires { ⌜ (128 ≤ length (now out)) × ((1 ≤ link .version .major) × Surveyed link seen) ⌝ }
     ensures { λ r. ⌜ ((p : List ℕ) → leaves r p (now (out .exit)) ≡ openingBy link p (now (out .entry)) consumed grant (wishOf (link .version .major) (now (payload .entry)))) ⌝ }
 {
     match wish_of(link.version.major, payload) {
@@ -582,7 +582,7 @@ fn take(
     pool: &mut [u8],
     out: &mut [u8],
 ) -> Called
-    requires { ⌜ (readOf (now input) ≡ Frame header extent) × ((guardOf link (length (now pool)) grant ≡ true) × Seen link seen) ⌝ }
+    requires { ⌜ (readOf (now input) ≡ Frame header extent) × ((guardOf link (length (now pool)) grant ≡ true) × Surveyed link seen) ⌝ }
     ensures { λ r. ⌜ leaves r (now (pool .exit)) (now (out .exit)) ≡ frameOf link (now (pool .entry)) (now (input .entry)) (now (out .entry)) header extent grant ⌝ }
 {
     if out.len() < LEAST_OUT {

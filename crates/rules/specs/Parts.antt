@@ -82,7 +82,7 @@ pub record Summed (l : Link) (fit : Bool) (held shared : ℕ) (ids : List ℕ) :
   pub five : FiveEach (l .rows)
 
 -- what a survey of a link within the rules tells
-pub record Seen (l : Link) (v : Overview) : Type 0 where
+pub record Surveyed (l : Link) (v : Overview) : Type 0 where
   pub shares : v .shared ≡ sharesIn (l .rows)
   pub names : v .ids ≡ idsOf (l .rows)
   pub bound : v .shared ≤ 671088640

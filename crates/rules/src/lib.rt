@@ -10,7 +10,7 @@ ghost use Rattle.numbers.specs.Bytes.{pick};
 ghost use Rattle.session.specs.Rules.{isRunning};
 ghost use Rattle.session.specs.Decide.{heldOf, shareOf};
 ghost use Rattle.link.specs.State.{allFrom, settingsFit, roomFits, versionAllowed, serviceAt, messageFits, unsettledFits, freeFits, grantFits, guardOf};
-ghost use Rattle.rules.specs.Parts.{noneLive, sessionFits, idsOf, indexIn, lowestIn, missingIn, distinctIn, holdsNeed, openFit, rowSound, ofSession, shareSum, Summed, Seen};
+ghost use Rattle.rules.specs.Parts.{noneLive, sessionFits, idsOf, indexIn, lowestIn, missingIn, distinctIn, holdsNeed, openFit, rowSound, ofSession, shareSum, Summed, Surveyed};
 use blocks::Owner;
 use frame::SessionId;
 use link::Grant;
@@ -316,7 +316,7 @@ pub struct Overview {
 // Whether refusal 10 is earned: the pool's length, the settings, the offer and the state are as they must be, or not. If each open message holds
 // what it needs, and these blocks and the free ones are the whole map, no other owner has any.
 pub fn survey(link: Link, pool: usize, grant: Grant) -> Overview
-    ensures { λ r. ⌜ (r .fit ≡ guardOf link pool grant) × ((r .shared ≡ shareSum (link .rows)) × ((r .ids ≡ idsOf (link .rows)) × (r .fit ≡ true → Seen link r))) ⌝ }
+    ensures { λ r. ⌜ (r .fit ≡ guardOf link pool grant) × ((r .shared ≡ shareSum (link .rows)) × ((r .ids ≡ idsOf (link .rows)) × (r .fit ≡ true → Surveyed link r))) ⌝ }
 {
     let version = link.version;
     let sums = sum_rows(link);
