@@ -1,6 +1,6 @@
 -- The three steps of a call on a frame of a session are `applied` together: the decision, what is told in pool and out, row and block map after it.
 -- By cases of the decision. Assumes nothing.
-use Prim.Native.Nat.{ℕ, zero, suc, _-_, _<_}
+use Prim.Native.Nat.{ℕ, zero, suc, _-_, _<_, _≤_}
 use mathlib.Core.Path.{_≡_, refl, ap, ap₂, sym, _∙_}
 use mathlib.Core.List.{List, [], _∷_}
 use native.Mathlib.Omega.{arith}
@@ -8,7 +8,8 @@ use lib.ListN.{length, getD, set, take}
 use Rattle.numbers.specs.Bytes.{laid}
 use Rattle.frame.specs.declared.Header.{Header}
 use Rattle.blocks.specs.declared.Owner.{Owner}
-use Rattle.blocks.specs.Pool.{blockBytes, appended}
+use Rattle.blocks.specs.Pool.{blockBytes, appended, delivered}
+use Rattle.blocks.proofs.Contents.{deliver-laid}
 use Rattle.session.specs.declared.Row.{Row}
 use Rattle.session.specs.declared.Act.{Act}
 use Rattle.session.specs.declared.Act.the-variants.{Refuse, Drop, Accept, Beat, Start, NoStart, Stop, Close, NoEnd, Claim, Append, Deliver, Single}
@@ -42,6 +43,10 @@ told-by k os payload p o act known e q = q ∙ ap (λ (d : Act). toldOf k os pay
 -- a reply that was written
 pub told-reply : (kind : ℕ → ℕ → Answer) (consumed : ℕ) (p : List ℕ) {x w : Sent} → x ≡ w → told (kind consumed (x .count)) p (x .out) ≡ told (kind consumed (w .count)) p (w .out)
 told-reply kind consumed p e = ap (λ (y : Sent). told (kind consumed (y .count)) p (y .out)) e
+
+-- what was written of a message, by the bytes that were due
+pub written-is : (x due total : ℕ) (os p o : List ℕ) {o′ : List ℕ} → o′ ≡ delivered x due os p o → due ≡ total → total ≤ length o → o′ ≡ laid (take total (blockBytes x os p)) o
+written-is x due total os p o e d h = e ∙ ap (λ (n : ℕ). delivered x n os p o) d ∙ deliver-laid x total os p o h
 
 -- a message that was delivered
 pub told-delivery : (k : Case) (os payload p o : List ℕ) {p′ o′ : List ℕ} → p′ ≡ appended (k .mine .0) (k .message .total - k .message .missing) payload os p

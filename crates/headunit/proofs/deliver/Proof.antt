@@ -1,7 +1,7 @@
 -- `headunit::deliver` meets its contract.
 -- Assumes nothing.
-use mathlib.Core.Path.{_∙_}
-use Rattle.blocks.proofs.Contents.{deliver-laid}
+use mathlib.Core.Path.{refl}
+use Rattle.headunit.proofs.Parts.{written-is}
 use borrow.Author.Needs.{needs}
 use Rattle.headunit.proofs.deliver.Statement.{statement}
 use Rattle.headunit.proofs.deliver.Tie as tie
@@ -22,7 +22,7 @@ same-length-2 : tie.Need-same-length-2
 same-length-2 c = search needs
 
 returns : tie.Need-returns
-returns c = ((c .before .before .before .before .before .before .before .before .feed .ensures), (c .before .before .deliver .ensures) ∙ deliver-laid _ _ _ _ _ (c .before .before .before .before .before .before .before .before .before .before .before .before .before .before .pre))
+returns c = ((c .before .before .before .before .before .before .before .before .feed .ensures), written-is _ _ (c .before .before .before .before .before .before .before .before .before .before .before .before .before .before .args .message .total) _ _ _ (c .before .before .deliver .ensures) refl (c .before .before .before .before .before .before .before .before .before .before .before .before .before .before .pre))
 
 pub deliver-spec : {M : Type 1} → statement M
 deliver-spec =
