@@ -1,5 +1,6 @@
 pub mod Turns
 pub mod Characters
+pub mod Pairs
 pub mod Digits
 pub mod Laws
 mod Cases
