@@ -5,6 +5,7 @@ use mathlib.Core.List.{[], _∷_, map}
 use Rattle.lines.specs.Text.{encoded, writtenOf}
 use Rattle.lines.specs.Hex.{digitOf, bytesOf, decoded, decodeOf, letterOf, hexOf}
 use Rattle.lines.specs.Decimal.{valueFrom, valueOf, numberOf, digitsBy, decimalOf}
+use Rattle.lines.specs.Newline.{lineLength, lineEndOf}
 use Rattle.lines.specs.declared.Decoded.the-variants as decode
 use Rattle.lines.specs.declared.Encoded.the-variants as encode
 use Rattle.lines.specs.declared.Number.the-variants.{Value, NotDecimal, TooLarge}
@@ -39,3 +40,8 @@ numbers :
     ≡ NotDecimal ∷ Value 0 ∷ Value 19 ∷ NotDecimal ∷ Value 18446744073709551615 ∷ TooLarge ∷ []
 unfolding valueFrom valueOf numberOf digitsBy decimalOf
 numbers = refl
+
+-- where the lines of "a", newline, "b" end, from each place and from one past the end
+ends : map (lineEndOf (97 ∷ 10 ∷ 98 ∷ [])) (0 ∷ 1 ∷ 2 ∷ 3 ∷ 7 ∷ []) ≡ 1 ∷ 1 ∷ 3 ∷ 3 ∷ 3 ∷ []
+unfolding lineLength lineEndOf
+ends = refl

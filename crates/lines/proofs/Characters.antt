@@ -6,8 +6,8 @@ use mathlib.Core.List.{List, [], _∷_}
 use mathlib.Core.Bool.{true, false, _||_, and-false}
 use native.Mathlib.Omega.{arith}
 use lib.ListN.{length, getD}
-use lib.Dec.{leb}
-use borrow.Author.Tests.{le-leb, lt-leb, leb-true, ltb-true, lt-ltb}
+use lib.Dec.{leb, ltb}
+use borrow.Author.Tests.{le-leb, lt-leb, leb-true, ltb-true, ltb-false, lt-ltb}
 use Rattle.lines.specs.Text.{between, every}
 use Rattle.lines.specs.Hex.{digitOf, isHex, isLowerHex, bytesOf, letterOf, hexOf}
 use Rattle.lines.specs.Decimal.{isDecimal}
@@ -45,30 +45,32 @@ module _ (b : ℕ) where
       split (between 65 70 b) (λ g. rw (e, f, g) (sym (lt-ltb (b - 55) 16 (omega (arith, says 65 70 b g))))) λ g.
       rw (e, f, g)
 
--- a text of digits has a digit at each place
-pub hex-below : (text : List ℕ) (i : ℕ) → every isHex text ≡ true → i < length text → digitOf (getD text i 0) < 16
-hex-below text i e h = ltb-true _ _ (every-says isHex text i e h)
+-- a digit's value, and that it is a byte, from each of the three ranges
+module _ (b : ℕ) (d : isHex b ≡ true) where
+  pub digit-says : {r : ℕ} → (48 ≤ b → b ≤ 57 → r ≡ b - 48) → (97 ≤ b → b ≤ 102 → r ≡ b - 87) → (65 ≤ b → b ≤ 70 → r ≡ b - 55) → r ≡ digitOf b
+  unfolding digitOf
+  digit-says ten lower upper =
+      split (between 48 57 b) (λ e. rw e (ten (says 48 57 b e .0) (says 48 57 b e .1))) λ e.
+      split (between 97 102 b) (λ f. rw (e, f) (lower (says 97 102 b f .0) (says 97 102 b f .1))) λ f.
+      split (between 65 70 b) (λ g. rw (e, f, g) (upper (says 65 70 b g .0) (says 65 70 b g .1))) λ g.
+      absurd (omega (arith, ltb-true 16 16 (rw (e, f, g) at d)))
+
+  pub digit-byte : b < 256
+  unfolding digitOf
+  digit-byte =
+      split (ltb b 256) (λ e. ltb-true b 256 e) λ e.
+      let l = ltb-false b 256 e in
+      absurd (omega (arith, ltb-true 16 16 (rw (above 48 57 b (omega arith), above 97 102 b (omega arith), above 65 70 b (omega arith)) at d)))
 
 pub decimal-at : (text : List ℕ) (i : ℕ) → every isDecimal text ≡ true → i < length text → (48 ≤ getD text i 0) × (getD text i 0 ≤ 57)
 decimal-at text i e h = says 48 57 (getD text i 0) (every-says isDecimal text i e h)
 
--- half as many bytes as characters; the byte at i is of the characters at 2 i and 2 i + 1
+-- half as many bytes as characters
 pub length-bytes : (text : List ℕ) → length (bytesOf text) ≡ length text / 2
 unfolding bytesOf
 length-bytes [] = refl
 length-bytes (a ∷ []) = refl
 length-bytes (a ∷ b ∷ text) = omega (arith, length-bytes text)
-
-pub byte-at : (text : List ℕ) (i : ℕ) → i < length text / 2
-    → getD (bytesOf text) i 0 ≡ digitOf (getD text (2 * i) 0) * 16 + digitOf (getD text (2 * i + 1) 0)
-unfolding bytesOf
-byte-at [] i h = absurd (omega arith)
-byte-at (a ∷ []) i h = absurd (omega arith)
-byte-at (a ∷ b ∷ text) zero h = refl
-byte-at (a ∷ b ∷ text) (suc i) h =
-    let e : 2 * suc i ≡ suc (suc (2 * i)) = omega arith in
-    let f : 2 * suc i + 1 ≡ suc (suc (2 * i + 1)) = omega arith in
-    rw (f, e) (byte-at text i (omega arith))
 
 -- twice as many characters as bytes; those at 2 i and 2 i + 1 are of the byte at i
 pub length-hex : (bytes : List ℕ) → length (hexOf bytes) ≡ 2 * length bytes

@@ -2,7 +2,7 @@
 -- written in lower". Assumes nothing.
 use Prim.Native.Nat.{ℕ, _+_, _-_, _*_, _/_, _%_, _<_}
 use mathlib.Core.List.{List, [], _∷_}
-use mathlib.Core.Bool.{Bool, not, _||_}
+use mathlib.Core.Bool.{Bool, not, _&&_, _||_}
 use lib.ListN.{length}
 use lib.Dec.{ltb, eqb}
 use Rattle.lines.specs.Text.{between, every}
@@ -30,6 +30,20 @@ unfoldable pub bytesOf : List ℕ → List ℕ
 bytesOf [] = []
 bytesOf (a ∷ []) = []
 bytesOf (a ∷ b ∷ text) = (digitOf a * 16 + digitOf b) ∷ bytesOf text
+
+-- a text two characters at a time: each pair is one number, the first character its lower byte
+unfoldable pub pairsOf : List ℕ → List ℕ
+pairsOf [] = []
+pairsOf (a ∷ []) = []
+pairsOf (a ∷ b ∷ text) = (a + b * 256) ∷ pairsOf text
+
+-- whether both characters of a pair are digits
+abbrev pub isPair : ℕ → Bool
+isPair pair = isHex (pair % 256) && isHex (pair / 256)
+
+-- the byte that a pair of digits says, the first its upper half
+abbrev pub pairByte : ℕ → ℕ
+pairByte pair = digitOf (pair % 256) * 16 + digitOf (pair / 256)
 
 -- what decoding leaves: its answer and the buffer
 pub record Decoding : Type 0 where

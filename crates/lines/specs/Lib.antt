@@ -1,3 +1,4 @@
 pub mod Text
 pub mod Hex
 pub mod Decimal
+pub mod Newline

@@ -1,75 +1,77 @@
--- `lines::put_bytes` meets its contract. The loop's invariant: the first i bytes of the text lie over the front of the buffer.
+-- `lines::put_bytes` meets its contract. The loop's invariant: the first bytes of the text, as many as are done, lie over the front of the buffer.
 -- Assumes nothing.
 use Prim.Native.Nat.{_+_, _*_, _≤_, _-_}
 use mathlib.Core.Path.{_≡_, refl, _∙_}
 use mathlib.Core.List.{_++_}
 use native.Mathlib.Omega.{arith}
-use lib.ListN.{length, take, drop, length-set}
-use Rattle.lines.specs.Hex.{bytesOf}
-use Rattle.lines.proofs.Turns.{front-at, front-end}
-use Rattle.lines.proofs.Characters.{hex-below, length-bytes, byte-at}
+use lib.ListN.{length, take, drop}
+use Rattle.lines.specs.Hex.{isHex, bytesOf}
+use Rattle.lines.proofs.Turns.{every-part, front-end}
+use Rattle.lines.proofs.Characters.{length-bytes}
+use Rattle.lines.proofs.Pairs.{group-turn}
 use borrow.Author.Needs.{needs}
 use Rattle.lines.proofs.put_bytes.Statement.{statement}
 use Rattle.lines.proofs.put_bytes.Tie as tie
 
 abbrev Inv-loop : tie.InvT-loop
-Inv-loop text out₀ count i₀ out i = (i ≤ count) × (length out ≡ length out₀) × (out ≡ take i (bytesOf text) ++ drop i out₀)
+Inv-loop text out₀ count done₀ out done = (done ≤ count) × (length out ≡ length out₀) × (out ≡ take done (bytesOf text) ++ drop done out₀)
 
 abbrev μ-loop : tie.MeasureT-loop
-μ-loop text out₀ count i₀ out i = count - i
+μ-loop text out₀ count done₀ out done = count - done
 
 loop-holds : tie.Need-loop-holds Inv-loop μ-loop
 loop-holds c = (omega arith, refl, refl)
 
-mul-digit : tie.Need-mul-digit Inv-loop μ-loop
-mul-digit c = search needs
+sub-least : tie.Need-sub-least Inv-loop μ-loop
+sub-least c = search needs
 
-shared-slice-read-digit : tie.Need-shared-slice-read-digit Inv-loop μ-loop
-shared-slice-read-digit c = search needs
+least-requires : tie.Need-least-requires Inv-loop μ-loop
+least-requires c κs = search needs
 
-digit-requires : tie.Need-digit-requires Inv-loop μ-loop
-digit-requires c κs = search needs
+add-next : tie.Need-add-next Inv-loop μ-loop
+add-next c = search needs
 
-mul-out : tie.Need-mul-out Inv-loop μ-loop
-mul-out c =
-    let t = c .before .before .before .before .before .before .args .text .now in
-    omega (arith, hex-below t (2 * (c .before .before .before .loop .i)) (c .before .before .before .before .before .before .pre .0) (omega arith))
+mul-start : tie.Need-mul-start Inv-loop μ-loop
+mul-start c = search needs
 
-mul-digit-2 : tie.Need-mul-digit-2 Inv-loop μ-loop
-mul-digit-2 c = search needs
+mul-end : tie.Need-mul-end Inv-loop μ-loop
+mul-end c = search needs
 
-add-digit : tie.Need-add-digit Inv-loop μ-loop
-add-digit c = search needs
+sub-put-group : tie.Need-sub-put-group Inv-loop μ-loop
+sub-put-group c = search needs
 
-shared-slice-read-digit-2 : tie.Need-shared-slice-read-digit-2 Inv-loop μ-loop
-shared-slice-read-digit-2 c = search needs
+part-put-group-start : tie.Need-part-put-group-start Inv-loop μ-loop
+part-put-group-start c = search needs
 
-digit-requires-2 : tie.Need-digit-requires-2 Inv-loop μ-loop
-digit-requires-2 c κs = search needs
+part-put-group-end : tie.Need-part-put-group-end Inv-loop μ-loop
+part-put-group-end c = search needs
 
-add-out : tie.Need-add-out Inv-loop μ-loop
-add-out c =
-    let t = c .before .before .before .before .before .before .before .before .args .text .now in
-    let l = c .before .before .before .before .before .loop in
-    let p = c .before .before .before .before .before .before .before .before .pre in
-    omega (arith, hex-below t (2 * l .i) (p .0) (omega arith), hex-below t (2 * l .i + 1) (p .0) (omega arith))
+sub-put-group-2 : tie.Need-sub-put-group-2 Inv-loop μ-loop
+sub-put-group-2 c = search needs
 
-slice-write-out : tie.Need-slice-write-out Inv-loop μ-loop
-slice-write-out c = search needs
+part-put-group-start-2 : tie.Need-part-put-group-start-2 Inv-loop μ-loop
+part-put-group-start-2 c = search needs
 
-add-i : tie.Need-add-i Inv-loop μ-loop
-add-i c = search needs
+part-put-group-end-2 : tie.Need-part-put-group-end-2 Inv-loop μ-loop
+part-put-group-end-2 c = search needs
+
+put-group-requires : tie.Need-put-group-requires Inv-loop μ-loop
+put-group-requires c κs =
+    let s = c .before .before .before .before .before .before .before in
+    let d = c .before .before .before .before .loop .done in
+    let n = c .before .before .least .result in
+    (every-part isHex (s .args .text .now) (2 * d) (2 * (d + n) - 2 * d) (s .pre .0), search needs)
 
 loop-less : tie.Need-loop-less Inv-loop μ-loop
 loop-less c = search needs
 
 loop-again : tie.Need-loop-again Inv-loop μ-loop
 loop-again c =
-    let t = c .before .before .before .before .before .before .before .before .args .text .now in
-    let l = c .before .before .before .before .before .loop in
-    let b = byte-at t (l .i) (omega arith) in
-    let f = front-at (bytesOf t) (c .before .before .before .before .before .before .before .before .args .out .now) (l .i) (omega (arith, length-bytes t)) (omega arith) in
-    (omega arith, simp length-set (omega arith), cc)
+    let a = c .before .before .before .before .before .before .before .before .before .before .args in
+    let l = c .before .before .before .before .before .before .before .loop in
+    let n = c .before .before .before .before .before .least .result in
+    let turn = group-turn (a .text .now) (a .out .now) (l .out) _ (l .done) n (omega arith) (omega arith) (l .inv .1) (l .inv .2) (c .before .before .put-group .ensures) in
+    (omega arith, search needs, turn)
 
 same-length : tie.Need-same-length Inv-loop μ-loop
 same-length c = c .before .loop .inv .1
@@ -78,7 +80,7 @@ returns : tie.Need-returns Inv-loop μ-loop
 returns c =
     let t = c .before .before .before .before .args .text .now in
     let l = c .before .loop in
-    l .inv .2 ∙ front-end (bytesOf t) (c .before .before .before .before .args .out .now) (l .i) (omega (arith, length-bytes t))
+    l .inv .2 ∙ front-end (bytesOf t) (c .before .before .before .before .args .out .now) (l .done) (omega (arith, length-bytes t))
 
 pub put-bytes-spec : {M : Type 1} → statement M
 put-bytes-spec =
@@ -87,17 +89,18 @@ put-bytes-spec =
     Inv-loop
     μ-loop
     loop-holds
-    mul-digit
-    shared-slice-read-digit
-    digit-requires
-    mul-out
-    mul-digit-2
-    add-digit
-    shared-slice-read-digit-2
-    digit-requires-2
-    add-out
-    slice-write-out
-    add-i
+    sub-least
+    least-requires
+    add-next
+    mul-start
+    mul-end
+    sub-put-group
+    part-put-group-start
+    part-put-group-end
+    sub-put-group-2
+    part-put-group-start-2
+    part-put-group-end-2
+    put-group-requires
     loop-less
     loop-again
     same-length
