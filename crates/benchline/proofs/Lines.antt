@@ -1,6 +1,6 @@
 -- A line as a whole: which lines are taken, from what the decoder and the reader say, and what a line leaves, from what its parts leave.
 -- By the tests of the definitions. Assumes nothing.
-use Prim.Native.Nat.{ℕ, _+_, _/_, _%_, _≤_, _<_}
+use Prim.Native.Nat.{ℕ, _/_, _%_, _≤_, _<_}
 use mathlib.Core.Path.{_≡_, refl, ap, _∙_, sym, subst}
 use mathlib.Core.Bool.{Bool, true, false, not, and-false}
 use mathlib.Core.List.{List, [], _∷_}
@@ -10,18 +10,17 @@ use lib.ListN.{length, take, drop}
 use lib.Seq.{take-at}
 use borrow.Author.Tests.{le-leb, lt-leb, eq-eqb, ne-eqb, ltb-true, eqb-true, eqb-false, not-true, not-false}
 use Rattle.numbers.specs.Bytes.{pick, laid}
+use Rattle.numbers.proofs.Choices.{split, either}
 use Rattle.lines.specs.declared.Decoded.{Decoded}
 use Rattle.lines.specs.declared.Decoded.the-variants as decodes
 use Rattle.lines.specs.Text.{every}
 use Rattle.lines.specs.Hex.{isHex, bytesOf, Decoding, decoded, decodeOf}
-use Rattle.lines.proofs.Turns.{split}
 use Rattle.lines.proofs.Characters.{length-bytes}
 use Rattle.frame.specs.declared.Header.{Header}
 use Rattle.frame.specs.declared.Extent.{Extent}
 use Rattle.frame.specs.declared.Reading.{Reading}
 use Rattle.frame.specs.declared.Reading.the-variants as reading
 use Rattle.frame.specs.Read.{readOf}
-use Rattle.frame.proofs.Laws.{either}
 use Rattle.link.specs.declared.Link.{Link}
 use Rattle.link.specs.declared.Grant.{Grant}
 use Rattle.link.specs.Call.{After, callOf}

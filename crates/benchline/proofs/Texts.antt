@@ -2,7 +2,6 @@
 -- their space, and a line's whole text. By the laws of take and drop and of `Appended`, and by induction over the digits. Assumes nothing.
 use Prim.Native.Nat.{ℕ, zero, suc, _+_, _-_, _*_, _/_, _^_, _≤_, _<_}
 use mathlib.Core.Path.{_≡_, refl, ap, _∙_, sym}
-use mathlib.Core.Bool.{Bool}
 use mathlib.Core.List.{List, [], _∷_, _++_, append-assoc, append-nil}
 use native.Mathlib.Omega.{arith}
 use native.Mathlib.Nat.{pow-suc}
@@ -12,15 +11,15 @@ use lib.Seq.{take-all, drop-drop}
 use borrow.Author.Tests.{ltb-true, ltb-false, leb-true, leb-false, le-ltb, le-leb, lt-leb}
 use borrow.Rule.Slice.PartMut.{putMid}
 use Rattle.numbers.specs.Bytes.{part, laid}
+use Rattle.numbers.proofs.Choices.{split}
 use Rattle.lines.specs.declared.Encoded.{Encoded}
 use Rattle.lines.specs.declared.Encoded.the-variants.{Chars, Full}
 use Rattle.lines.specs.Text.{Encoding, encoded, writtenOf}
 use Rattle.lines.specs.Hex.{hexOf}
 use Rattle.lines.specs.Decimal.{decimalOf}
-use Rattle.lines.proofs.Turns.{split}
 use Rattle.lines.proofs.Characters.{length-hex}
 use Rattle.lines.proofs.Digits.{width-one, width-step}
-use Rattle.payload.specs.Append.{placed, Appended}
+use Rattle.payload.specs.Append.{Appended}
 use Rattle.payload.proofs.Appends.{more, renamed}
 use Rattle.frame.specs.declared.ServiceType.{ServiceType}
 use Rattle.link.specs.declared.Answer.{Answer}

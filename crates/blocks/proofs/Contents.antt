@@ -8,11 +8,12 @@ use native.Mathlib.Omega.{arith}
 use lib.Dec.{eqb}
 use lib.ListN.{length, take, drop, length-append, length-take, length-drop, drop-of-length-le, take-append-drop}
 use lib.Seq.{take-nil, take-all, take-at, drop-at, drop-drop, length-take-le, take-append-add}
-use borrow.Author.Tests.{eqb-true, eqb-false, eq-eqb, ne-eqb}
+use borrow.Author.Tests.{eq-eqb, ne-eqb}
 use Rattle.numbers.specs.Bytes.{pick, laid}
+use Rattle.numbers.proofs.Choices.{split, same-or-not}
 use Rattle.blocks.specs.Map.{blockSize, free, heldBy, claimed, released, numbersFrom, blockNumbers, Outside}
 use Rattle.blocks.specs.Pool.{blockBytes, over, appended, delivered, joined}
-use Rattle.blocks.proofs.Over.{split, compare, over-length, over-append, over-adds, over-front}
+use Rattle.blocks.proofs.Over.{compare, over-length, over-append, over-adds, over-front}
 use Rattle.blocks.proofs.Counts.{held-mine, held-not, claim-taken, claim-enough, claim-held, claim-cases, release-hit, release-below, release-above, release-cases, numbers-mine, numbers-not}
 
 -- ---- worked cases, by computation; a pool of a few bytes is a first block cut short
@@ -50,12 +51,8 @@ pub append-not : (owner at o : ℕ) (s map pool : List ℕ) → o ≢ owner
 unfolding appended
 append-not owner at o s map pool h = rw (ne-eqb o owner h)
 
--- cases on a block's owner
-mine-cases : {X : Type 0} (o owner : ℕ) → (o ≡ owner → X) → (o ≢ owner → X) → X
-mine-cases o owner f g = split (eqb o owner) (λ e. f (eqb-true o owner e)) (λ e. g (eqb-false o owner e))
-
 -- a block and what is behind it, in a pool whose pieces are as long as they were
-nil-of : (l : List ℕ) → length l ≡ 0 → l ≡ []
+pub nil-of : (l : List ℕ) → length l ≡ 0 → l ≡ []
 nil-of [] e = refl
 nil-of (x ∷ l) e = absurd (omega arith)
 
@@ -86,7 +83,7 @@ bytes-length owner [] pool h = refl
 bytes-length owner (o ∷ map) pool h =
     let ih = bytes-length owner map (drop blockSize pool) (omega (arith, length-drop blockSize pool)) in
     let full = length-take-le blockSize pool (omega arith) in
-    mine-cases o owner
+    same-or-not o owner
     (λ e. ap length (bytes-mine owner o map pool e) ∙ length-append (take blockSize pool) _ ∙ omega (arith, held-mine owner o map e))
     (λ e. ap length (bytes-not owner o map pool e) ∙ omega (arith, held-not owner o map e))
 
@@ -97,7 +94,7 @@ append-length owner at s [] pool = refl
 append-length owner at s (o ∷ map) pool =
     let whole : length (take blockSize pool) + length (drop blockSize pool) ≡ length pool =
     sym (length-append (take blockSize pool) (drop blockSize pool)) ∙ ap length (take-append-drop blockSize pool) in
-    mine-cases o owner
+    same-or-not o owner
     (λ e.
     ap length (append-mine owner at o s map pool e) ∙ length-append (over at s (take blockSize pool)) _
     ∙ omega (arith, over-length at s (take blockSize pool), append-length owner (at - blockSize) (drop (blockSize - at) s) map (drop blockSize pool)))
@@ -125,7 +122,7 @@ pub append-bytes : (owner at : ℕ) (s map pool : List ℕ) → blockBytes owner
 unfolding blockBytes over
 append-bytes owner at s [] pool = refl
 append-bytes owner at s (o ∷ map) pool =
-    mine-cases o owner
+    same-or-not o owner
     (λ e.
     let block : List ℕ = over at s (take blockSize pool) in
     let at₂ : ℕ = at - blockSize in
@@ -160,7 +157,7 @@ pub append-others : (other owner at : ℕ) (s map pool : List ℕ) → other ≢
 unfolding blockBytes
 append-others other owner at s [] pool d = refl
 append-others other owner at s (o ∷ map) pool d =
-    mine-cases o owner
+    same-or-not o owner
     (λ e.
     let block : List ℕ = over at s (take blockSize pool) in
     let rest : List ℕ = appended owner (at - blockSize) (drop (blockSize - at) s) map (drop blockSize pool) in
@@ -185,7 +182,7 @@ unfolding appended
 append-behind owner at s [] pool = refl
 append-behind owner at s (o ∷ map) pool =
     let n : blockSize * suc (length map) ≡ blockSize + blockSize * length map = omega arith in
-    mine-cases o owner
+    same-or-not o owner
     (λ e.
     let block : List ℕ = over at s (take blockSize pool) in
     let rest : List ℕ = appended owner (at - blockSize) (drop (blockSize - at) s) map (drop blockSize pool) in
@@ -309,7 +306,7 @@ bytes-from b owner (o ∷ map) pool =
     let n : blockSize * b + blockSize ≡ blockSize * suc b = omega arith in
     let d : drop blockSize (drop (blockSize * b) pool) ≡ drop (blockSize * suc b) pool = drop-drop blockSize (blockSize * b) pool ∙ ap (λ (k : ℕ). drop k pool) n in
     let ih : blockBytes owner map (drop blockSize (drop (blockSize * b) pool)) ≡ joined pool (numbersFrom (suc b) owner map) = rw d (bytes-from (suc b) owner map pool) in
-    mine-cases o owner
+    same-or-not o owner
     (λ e.
     bytes-mine owner o map (drop (blockSize * b) pool) e ∙ ap (λ (t : List ℕ). take blockSize (drop (blockSize * b) pool) ++ t) ih
     ∙ ap (joined pool) (sym (numbers-mine b owner o map e)))

@@ -11,8 +11,8 @@ use lib.ListN.{length, take, drop, getD, replicate, length-replicate}
 use lib.Seq.{take-nil}
 use borrow.Author.Tests.{eqb-true, eqb-false, eq-eqb, ne-eqb, ltb-true, ltb-false, leb-true, leb-false, le-leb, lt-leb, lt-ltb, le-ltb}
 use Rattle.numbers.specs.Bytes.{pick, AreBytes}
+use Rattle.numbers.proofs.Choices.{split}
 use Rattle.blocks.specs.Map.{blockSize, blockCount, free, neededFor, freeMap, heldBy, heldByAll, freeIn, claimed, released, numbersFrom, blockNumbers, placeOf, Below, Outside}
-use Rattle.blocks.proofs.Over.{split}
 
 -- ---- worked cases, by computation: before the laws, so that a changed definition is told by its values
 
@@ -253,7 +253,7 @@ all-hit first (suc n) o map a b =
     (λ t. omega (arith, held-mine first o map (eqb-true o first t), all-miss (suc first) n o map (λ p q. omega (arith, eqb-true o first t))))
     (λ t. omega (arith, held-not first o map (eqb-false o first t), all-hit (suc first) n o map (omega (arith, eqb-false o first t)) (omega arith)))
 
-all-none : (first n : ℕ) → heldByAll first n [] ≡ 0
+pub all-none : (first n : ℕ) → heldByAll first n [] ≡ 0
 unfolding heldByAll heldBy
 all-none first zero = refl
 all-none first (suc n) = omega (arith, all-none (suc first) n)

@@ -3,19 +3,14 @@
 use Prim.Native.Nat.{ℕ, zero, suc, _+_, _-_, _≤_, _<_, min}
 use mathlib.Core.Path.{_≡_, refl, ap, sym}
 use mathlib.Core.List.{List, [], _∷_, _++_}
-use mathlib.Core.Bool.{Bool, true, false}
 use native.Mathlib.Omega.{arith}
 use lib.Dec.{leb}
 use lib.ListN.{length, take, drop}
 use lib.Seq.{drop-nil}
 use borrow.Author.Tests.{leb-true, leb-false}
 use Rattle.numbers.specs.Bytes.{laid}
+use Rattle.numbers.proofs.Choices.{split}
 use Rattle.blocks.specs.Pool.{over}
-
--- by the two cases of a test
-pub split : {X : Type 0} (b : Bool) → (b ≡ true → X) → (b ≡ false → X) → X
-split true f g = f refl
-split false f g = g refl
 
 -- by the order of two numbers
 pub compare : {X : Type 0} (m n : ℕ) → (m ≤ n → X) → (n < m → X) → X

@@ -9,14 +9,14 @@ use native.Mathlib.Numerals.{add-one}
 use native.Mathlib.Omega.{arith}
 use lib.Dec.{ltb}
 use lib.ListN.{length, take, drop, getD, length-append, length-take, length-drop, drop-of-length-le, take-append-drop}
-use lib.Seq.{take-nil, drop-nil, take-all, take-take, take-add, take-at, drop-at, drop-drop, drop-cons, length-take-le, take-append-le, take-append-add, drop-append-add}
+use lib.Seq.{take-nil, drop-nil, take-all, take-take, take-add, take-at, drop-at, drop-drop, drop-cons, length-take-le, take-append-le, take-append-add}
 use borrow.Author.Tests.{lt-ltb, le-ltb, ltb-true, ltb-false}
 use borrow.Rule.Slice.PartMut.{putMid}
 use Rattle.blocks.specs.Map.{blockSize, neededFor, heldBy, placeOf}
 use Rattle.blocks.specs.Pool.{appendedFrom, blockBytes, over, appended, delivered}
 use Rattle.blocks.proofs.Over.{compare, over-length, over-past, over-nothing, over-behind, over-adds, over-parts, over-front, over-append, over-pieces}
 use Rattle.blocks.proofs.Counts.{place-here, place-later, place-not, place-cases, place-owner}
-use Rattle.blocks.proofs.Contents.{bytes-mine, bytes-not, bytes-none, bytes-length, append-mine, append-not, append-length}
+use Rattle.blocks.proofs.Contents.{bytes-mine, bytes-not, bytes-none, bytes-length, append-mine, append-not, append-length, nil-of}
 use Rattle.blocks.proofs.Turns.{part-behind, rest-place}
 
 -- ---- parts
@@ -143,10 +143,6 @@ append-nothing owner at (o ∷ map) pool =
   where
     compareOwner : {X : Type 0} → (o ≡ owner → X) → (o ≢ owner → X) → X
     compareOwner f g = place-cases owner 0 o (λ e z. f e) (λ e z. f e) g
-
-nil-of : (l : List ℕ) → length l ≡ 0 → l ≡ []
-nil-of [] e = refl
-nil-of (x ∷ l) e = absurd (omega arith)
 
 pub append-nowhere : (owner at : ℕ) (s map : List ℕ) → appended owner at s map [] ≡ []
 append-nowhere owner at s map = nil-of (appended owner at s map []) (append-length owner at s map [])

@@ -11,8 +11,8 @@ use lib.Dec.{eqb, leb}
 use lib.ListN.{length, take, drop, getD, set, drop-of-length-le, take-append-drop, length-take, length-drop}
 use lib.Seq.{drop-cons, take-suc, take-suc-set, drop-set-lt, append-snoc, take-all, drop-drop}
 use Rattle.numbers.specs.Bytes.{pick}
+use Rattle.numbers.proofs.Choices.{split}
 use Rattle.blocks.specs.Map.{free, heldBy, claimed, released, placeOf}
-use Rattle.blocks.proofs.Over.{split}
 use Rattle.blocks.proofs.Counts.{held-most, claim-none, claim-taken, claim-held, place-here, place-later, place-not, place-most, place-skip}
 
 -- a pass over a list at i: the entry is kept, or v is stored there

@@ -12,6 +12,7 @@ use borrow.Author.Tests.{le-leb}
 use Rattle.numbers.specs.Bytes.{pick, AreBytes, laid}
 use Rattle.numbers.specs.Numbers.{bytesBe}
 use Rattle.numbers.proofs.Laws.{length-be, read-written-be}
+use Rattle.numbers.proofs.Choices.{unless-elim}
 use Rattle.frame.specs.declared.Header.{Header}
 use Rattle.frame.specs.declared.Extent.{Extent}
 use Rattle.frame.specs.declared.Reading.{Reading}
@@ -21,7 +22,7 @@ use Rattle.frame.specs.declared.Written.the-variants as written
 use Rattle.frame.specs.Rules.{headerSize}
 use Rattle.frame.specs.Read.{frontOf, readOf}
 use Rattle.frame.specs.Write.{writeHeaderOf, writeOf}
-use Rattle.frame.proofs.Laws.{header-range, fault-most, frame-most, unless-elim, AnswerBound, header-bound, write-bound}
+use Rattle.frame.proofs.Laws.{header-range, fault-most, frame-most, AnswerBound, header-bound, write-bound}
 use Rattle.frame.proofs.Answers.{is-refused, is-short, frame-sound, extent-is, consumed-is, size-bound, message-bound}
 use Rattle.capture.specs.Capture.{code, classOf, valueOf, readingCode, writtenCode, ReadingFits, WrittenFits, fieldBytes, headerIn, heard, tilambokReadFrame, tilambokWriteHeader, tilambokWriteFrame}
 

@@ -6,13 +6,13 @@ use mathlib.Core.List.{List, [], _∷_, _++_, append-assoc, append-nil}
 use native.Mathlib.Omega.{arith}
 use lib.Dec.{leb}
 use borrow.Author.Tests.{leb-true, leb-false, eq-eqb, ne-eqb}
-use mathlib.Core.Bool.{Bool, true, false}
 use lib.ListN.{length, take, drop, set, length-set, length-append, length-take, length-drop, drop-of-length-le}
 use lib.Seq.{paste, take-all, take-at, take-nil, drop-append-add, drop-drop}
 use borrow.Rule.Slice.PartMut.{putMid}
 use Rattle.numbers.specs.Bytes.{part, pick, putAt, laid}
 use Rattle.numbers.specs.Numbers.{bytesBe}
 use Rattle.numbers.proofs.Laws.{length-be, put-fits}
+use Rattle.numbers.proofs.Choices.{split}
 use Rattle.frame.specs.declared.Header.{Header}
 use Rattle.frame.specs.Write.{messageBytes, headerBytes}
 
@@ -85,10 +85,6 @@ payload-put a b o p q r n l h e f g =
   where
     length-part : (s : List ℕ) (at w : ℕ) → length (part s at w) ≤ w
     length-part s at w = omega (arith, length-take w (drop at s))
-
-split : {X : Type 0} (b : Bool) → (b ≡ true → X) → (b ≡ false → X) → X
-split true f g = f refl
-split false f g = g refl
 
 -- a part that starts at its end, or past the list's end, is empty
 part-none : (s : List ℕ) (a w : ℕ) → length s ≤ a → part s a w ≡ []

@@ -11,20 +11,12 @@ use borrow.Author.Tests.{leb-true, eqb-true, eqb-false, eq-eqb, ne-eqb, le-leb}
 use Rattle.numbers.specs.Bytes.{pick, unless, laid}
 use Rattle.numbers.specs.Numbers.{bytesBe}
 use Rattle.numbers.proofs.Laws.{length-be}
+use Rattle.numbers.proofs.Choices.{and-both, either, unless-elim}
 use Rattle.frame.specs.declared.Header.{Header}
 use Rattle.frame.specs.Rules.{knownVersion, listedService, infoFits, flagFits, largest, sizeFits, faultOf, headerSize}
 use Rattle.frame.specs.Write.{messageBytes, headerBytes, frameBytes, Wrote, wrote, putOf, writeHeaderOf, writeOf}
 use Rattle.frame.specs.declared.Written.{Written}
 use Rattle.frame.specs.declared.Written.the-variants.{Bytes, Refused}
-
--- a property of both ways holds of the way taken
-pub either : {A : Type 0} (P : A → Type 0) (b : Bool) (x y : A) → (b ≡ true → P x) → (b ≡ false → P y) → P (pick b x y)
-either P true x y f g = f refl
-either P false x y f g = g refl
-
-and-both : (b c : Bool) → b && c ≡ true → (b ≡ true) × (c ≡ true)
-and-both true c e = (refl, e)
-and-both false c e = (e, cc)
 
 not-yes : (b : Bool) → not b ≡ true → b ≡ false
 not-yes true e = sym e
@@ -169,10 +161,6 @@ fault-most h =
 -- a frame takes at most 131,084 bytes, 12 of them its header
 pub frame-most : (h : Header) → faultOf h ≡ 0 → headerSize (h .version) + h .size ≤ 131084
 frame-most h e = omega (arith, header-range (h .version), largest-range (h .version), size-most (h .version) (h .kind) (h .size) (fault-none h e .size))
-
-pub unless-elim : {A : Type 0} (P : A → Type 0) (b : Bool) (x y : A) → (b ≡ false → P x) → (b ≡ true → P y) → P (unless b x y)
-unless-elim P true x y f g = g refl
-unless-elim P false x y f g = f refl
 
 -- how large a writer's answer is
 abbrev pub AnswerBound : Written → Type 0

@@ -12,6 +12,7 @@ use borrow.Author.Tests.{leb-true, leb-false, eqb-true, le-leb, lt-leb}
 use Rattle.numbers.specs.Bytes.{part, pick, AreBytes, laid}
 use Rattle.numbers.specs.Numbers.{valueBe, bytesBe}
 use Rattle.numbers.proofs.Laws.{length-be, read-written-be, written-read-be, bytes-take, bytes-drop}
+use Rattle.numbers.proofs.Choices.{either, unless-elim}
 use Rattle.frame.specs.declared.Header.{Header}
 use Rattle.frame.specs.declared.MessageId.{MessageId}
 use Rattle.frame.specs.declared.Extent.{Extent}
@@ -20,7 +21,7 @@ use Rattle.frame.specs.declared.Written.the-variants.{Refused, Bytes as 
 use Rattle.frame.specs.Rules.{faultOf, headerSize}
 use Rattle.frame.specs.Read.{frontOf, messageOf, withMessage, frameSize, extentOf, readOf}
 use Rattle.frame.specs.Write.{messageBytes, headerBytes, frameBytes, Wrote, wrote, putOf, writeOf}
-use Rattle.frame.proofs.Laws.{fault-none, size-most, largest-range, header-range, header-length, frame-length, either, unless-elim}
+use Rattle.frame.proofs.Laws.{fault-none, size-most, largest-range, header-range, header-length, frame-length}
 use Rattle.frame.proofs.Answers.{read-frame, is-frame, fault-front}
 
 -- the first byte holds version, flag and type, and nothing else

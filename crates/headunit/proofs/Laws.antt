@@ -13,6 +13,7 @@ use borrow.Rule.Slice.PartMut.{putMid}
 use Rattle.numbers.specs.Bytes.{unless, part, laid, putAt}
 use Rattle.numbers.specs.Numbers.{bytesBe}
 use Rattle.numbers.proofs.Laws.{put-fits}
+use Rattle.numbers.proofs.Choices.{and-both, either, unless-elim}
 use Rattle.frame.specs.declared.ServiceType.{ServiceType}
 use Rattle.frame.specs.declared.SessionId.{SessionId}
 use Rattle.frame.specs.declared.Header.{Header}
@@ -25,7 +26,7 @@ use Rattle.frame.specs.declared.Extent.{Extent}
 use Rattle.frame.specs.declared.Reading.the-variants as reading
 use Rattle.frame.specs.Read.{readOf}
 use Rattle.frame.proofs.Answers.{frame-sound}
-use Rattle.frame.proofs.Laws.{fault-none, write-puts, frame-length, header-range, either, unless-elim}
+use Rattle.frame.proofs.Laws.{fault-none, write-puts, frame-length, header-range}
 use Rattle.frame.proofs.Buffers.{pasted, payload-put}
 use Rattle.payload.specs.declared.append.Written as Payload
 use Rattle.payload.specs.declared.append.Written.the-variants as payload
@@ -54,7 +55,7 @@ use Rattle.link.specs.declared.Grant.{Grant}
 use Rattle.link.specs.declared.Answer.the-variants as answer
 use Rattle.link.specs.State.{indexOf, lowestFree, versionAllowed, rowFits, rulesHold, settingsFit, grantFits, guardOf, withRow}
 use Rattle.link.specs.Call.{After, wishOf, opens, opened, openingBy, saidOf, decisionOf, applied, frameOf, callOf}
-use Rattle.link.proofs.Shown.{and-both, rules-say}
+use Rattle.link.proofs.Shown.{rules-say}
 use Rattle.link.proofs.Holdings.{row-fits-at, row-rules}
 use Rattle.link.proofs.Table.{index-row}
 use Rattle.link.specs.Reply.{replyHeader, replyBytes, newAck, grantedPayload}

@@ -8,10 +8,11 @@ use native.Mathlib.Omega.{arith}
 use lib.ListN.{length, getD}
 use lib.Dec.{leb, ltb}
 use borrow.Author.Tests.{le-leb, lt-leb, leb-true, ltb-true, ltb-false, lt-ltb}
+use Rattle.numbers.proofs.Choices.{split}
 use Rattle.lines.specs.Text.{between, every}
 use Rattle.lines.specs.Hex.{digitOf, isHex, isLowerHex, bytesOf, letterOf, hexOf}
 use Rattle.lines.specs.Decimal.{isDecimal}
-use Rattle.lines.proofs.Turns.{split, both, every-says}
+use Rattle.lines.proofs.Turns.{both, every-says}
 
 -- a range's test from facts, and facts from it
 module _ (low high b : ℕ) where

@@ -8,13 +8,14 @@ use native.Mathlib.Omega.{arith}
 use lib.ListN.{length, getD, List·getD-append}
 use lib.Dec.{ltb}
 use borrow.Author.Tests.{lt-ltb, le-ltb, ltb-true, ltb-false, ne-eqb}
+use Rattle.numbers.proofs.Choices.{split}
 use Rattle.lines.specs.Text.{between, every}
 use Rattle.numbers.specs.Bytes.{laid, AreBytes}
 use Rattle.lines.specs.Hex.{digitOf, isHex, isLowerHex, bytesOf, decoded, decodeOf, letterOf, hexOf}
 use Rattle.lines.specs.Decimal.{isDecimal, valueFrom, valueOf, numberOf, decimalOf}
 use Rattle.lines.specs.declared.Decoded.the-variants.{Bytes}
 use Rattle.lines.specs.declared.Number.the-variants.{Value, TooLarge}
-use Rattle.lines.proofs.Turns.{split, both}
+use Rattle.lines.proofs.Turns.{both}
 use Rattle.lines.proofs.Characters.{within, above, says, digit-ten, digit-lower, length-hex}
 use Rattle.lines.proofs.Digits.{by-tens, decimal-one, decimal-step, width-some}
 

@@ -9,9 +9,9 @@ use lib.Dec.{eqb, leb}
 use lib.ListN.{length, take, drop, getD, length-drop, take-append-drop, drop-of-length-le}
 use lib.Seq.{drop-cons, drop-drop, take-all, length-take-le}
 use borrow.Author.Tests.{eq-eqb, ne-eqb, leb-true, leb-false}
+use Rattle.numbers.proofs.Choices.{split}
 use Rattle.lines.specs.Text.{every}
 use Rattle.lines.specs.Newline.{isInLine, lineLength, lineEndOf}
-use Rattle.lines.proofs.Turns.{split}
 
 -- a line ends within the text
 pub line-within : (text : List ℕ) → lineLength text ≤ length text

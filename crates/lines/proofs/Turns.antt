@@ -12,11 +12,6 @@ use borrow.Rule.Slice.PartMut.{putMid}
 use Rattle.lines.specs.Text.{every}
 use Rattle.numbers.specs.Bytes.{laid}
 
--- by the two cases of a test
-pub split : {P : Type 0} (b : Bool) → (b ≡ true → P) → (b ≡ false → P) → P
-split true f g = f refl
-split false f g = g refl
-
 -- both tests hold
 pub both : (a b : Bool) → (a && b) ≡ true → (a ≡ true) × (b ≡ true)
 both true b e = (refl, e)

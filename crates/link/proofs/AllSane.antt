@@ -9,12 +9,13 @@ use lib.Dec.{eqb, ltb, leb}
 use lib.ListN.{length, length-set}
 use borrow.Author.Tests.{eqb-true, eqb-false, leb-true, ltb-true, not-true}
 use Rattle.numbers.specs.Bytes.{unless, part}
+use Rattle.numbers.proofs.Choices.{and-both, either, unless-elim}
 use Rattle.frame.specs.declared.Header.{Header}
 use Rattle.frame.specs.declared.Extent.{Extent}
 use Rattle.frame.specs.declared.Reading.{Reading}
 use Rattle.frame.specs.declared.Reading.the-variants as reading
 use Rattle.frame.specs.Read.{readOf}
-use Rattle.frame.proofs.Laws.{either, unless-elim, Sound, fault-none}
+use Rattle.frame.proofs.Laws.{Sound, fault-none}
 use Rattle.frame.proofs.Answers.{frame-sound}
 use Rattle.payload.specs.declared.version.Version.{Version}
 use Rattle.payload.specs.Walk.{payloadOf}
@@ -27,9 +28,9 @@ use Rattle.link.specs.Call.{After, Wish, old, new, bad, wishOf, wishOfPa
 use Rattle.link.specs.Book.{Command, call}
 use Rattle.link.specs.Claim.{State, stateAfter}
 use Rattle.link.specs.Pages.{Sane}
-use Rattle.link.proofs.RowRules.{both, old-allowed, new-allowed}
-use Rattle.link.proofs.Table.{index-row}
-use Rattle.link.proofs.TableRules.{five-set, session-sane}
+use Rattle.link.proofs.RowRules.{old-allowed, new-allowed}
+use Rattle.link.proofs.Table.{index-row, five-set}
+use Rattle.link.proofs.TableRules.{session-sane}
 use Rattle.link.proofs.OpeningRules.{opened-rules}
 
 abbrev SaneAfter : After → Type 0
@@ -46,7 +47,7 @@ new-five major payload v e = by (eqb major 5) (eqb-true major 5) e
 
 major-some : (v : Version) (mtu : ℕ) → settingsFit v mtu ≡ true → 1 ≤ v .major
 unfolding settingsFit
-major-some v mtu e = leb-true 1 (v .major) (both (leb 1 (v .major)) _ e .0)
+major-some v mtu e = leb-true 1 (v .major) (and-both (leb 1 (v .major)) _ e .0)
 
 module _ (l : Link) (p : List ℕ) (k : Sane (record { link = l; pool = p })) (o : List ℕ) (g : Grant) (fits : grantFits g ≡ true) where
   opened-sane : (consumed v : ℕ) (bytes : List ℕ) → admits (l .rows) g ≡ true → versionAllowed (l .version .major) v ≡ true → SaneAfter (opened l p o consumed g v bytes)
@@ -77,7 +78,7 @@ module _ (l : Link) (p : List ℕ) (k : Sane (record { link = l; pool = p })) (o
       unless-elim SaneAfter (leb 128 (length o)) _ _ (λ _. k) λ _.
       either SaneAfter (opens h) _ _ (λ _. opening-sane (e .consumed) payload (wishOf (l .version .major) payload) refl) λ _.
       unless-elim SaneAfter (not (eqb i 0) && ltb (indexOf i (l .rows)) (length (l .rows))) _ _ (λ _. k) λ t.
-      let q = both (not (eqb i 0)) (ltb (indexOf i (l .rows)) (length (l .rows))) t in
+      let q = and-both (not (eqb i 0)) (ltb (indexOf i (l .rows)) (length (l .rows))) t in
       let b : indexOf i (l .rows) < length (l .rows) = ltb-true (indexOf i (l .rows)) (length (l .rows)) (q .1) in
       session-sane l (indexOf i (l .rows)) p o h (e .consumed) payload g (length o) k b
       (λ z. eqb-false i 0 (not-true (eqb i 0) (q .0)) (sym (index-row i (l .rows) b) ∙ z)) sound
@@ -89,7 +90,7 @@ module _ (l : Link) (p : List ℕ) (k : Sane (record { link = l; pool = p })) (o
 
 guard-grant : (l : Link) (pool : ℕ) (g : Grant) → guardOf l pool g ≡ true → grantFits g ≡ true
 unfolding guardOf
-guard-grant l pool g e = both (grantFits g) _ (both (settingsFit (l .version) (l .mtu)) _ (both (eqb pool 65536) _ e .1) .1) .0
+guard-grant l pool g e = and-both (grantFits g) _ (and-both (settingsFit (l .version) (l .mtu)) _ (and-both (eqb pool 65536) _ e .1) .1) .0
 
 call-sane : (l : Link) (p s o : List ℕ) (g : Grant) → Sane (record { link = l; pool = p }) → SaneAfter (callOf l p s o g)
 unfolding callOf

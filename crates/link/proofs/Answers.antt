@@ -12,6 +12,7 @@ use lib.ListN.{length, getD}
 use borrow.Author.Tests.{eqb-true, le-leb}
 use Rattle.numbers.specs.Bytes.{pick, unless, part, laid}
 use Rattle.numbers.specs.Numbers.{valueBe}
+use Rattle.numbers.proofs.Choices.{and-both, unless-elim}
 use Rattle.frame.specs.declared.Header.{Header}
 use Rattle.frame.specs.declared.ServiceType.{ServiceType}
 use Rattle.frame.specs.declared.Extent.{Extent}
@@ -19,7 +20,6 @@ use Rattle.frame.specs.declared.Reading.{Reading}
 use Rattle.frame.specs.declared.Reading.the-variants as reading
 use Rattle.frame.specs.Read.{readOf}
 use Rattle.frame.specs.Message.{totalsFit}
-use Rattle.frame.proofs.Laws.{unless-elim}
 use Rattle.frame.proofs.Answers.{session-fourth}
 use Rattle.session.specs.declared.Row.{Row}
 use Rattle.session.specs.declared.Act.{Act}
@@ -40,7 +40,7 @@ use Rattle.link.specs.Call.{After, opens, saidOf, decisionOf, applied, f
 use Rattle.link.specs.Book.{Request, Command, call, Ask, single, first, next, end, other, Seen, opening, within, askOf, seenIn, seenOf, dueOn, names, Page, needsIn, reachesRoom, ModestOn, ModestIn}
 use Rattle.link.specs.Claim.{State, eventOf, isOpen, DeliversDue}
 use Rattle.link.specs.Pages.{rowOf, notesFrom, pageOf, pages, Sane}
-use Rattle.link.proofs.Shown.{and-both, rules-say}
+use Rattle.link.proofs.Shown.{rules-say}
 use Rattle.link.proofs.Table.{shares-modest}
 use Rattle.link.proofs.Deliveries.{Gives, row-gives, page-of}
 use Rattle.link.proofs.Holdings.{needs-held, open-index}

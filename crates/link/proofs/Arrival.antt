@@ -9,18 +9,19 @@ use mathlib.Core.Option.{Option, some}
 use mathlib.Core.List.{List, [], _∷_, _++_}
 use native.Mathlib.Omega.{arith}
 use lib.Dec.{T, eqb, leb, ltb}
-use lib.ListN.{length, getD, set, take, drop, length-set, length-take, length-drop}
+use lib.ListN.{length, getD, take, drop, length-set, length-take, length-drop}
 use lib.Seq.{getD-set-same, drop-at, take-all}
 use borrow.Author.Tests.{eqb-true, leb-true, eq-eqb, ne-eqb, le-leb, lt-ltb}
 use Rattle.numbers.specs.Bytes.{pick, unless, part, laid}
 use Rattle.numbers.specs.Numbers.{valueBe, bytesBe}
+use Rattle.numbers.proofs.Choices.{either, unless-elim, onTest}
 use Rattle.frame.specs.declared.Header.{Header}
 use Rattle.frame.specs.declared.Extent.{Extent}
 use Rattle.frame.specs.declared.Reading.the-variants as reading
 use Rattle.frame.specs.Read.{extentOf, readOf}
 use Rattle.frame.specs.Write.{frameBytes}
 use Rattle.frame.specs.Message.{frameNumber, totalsFit}
-use Rattle.frame.proofs.Laws.{either, unless-elim, version-range}
+use Rattle.frame.proofs.Laws.{version-range}
 use Rattle.frame.proofs.Answers.{frame-sound}
 use Rattle.frame.proofs.ThereAndBack.{laid-arrives}
 use Rattle.sender.specs.declared.Outgoing.{Outgoing}
@@ -44,7 +45,6 @@ use Rattle.link.specs.Book.{Request, Command, call, Ask, first, next, Se
 use Rattle.link.specs.Claim.{State, stepped, stateAfter, eventOf, endOf, isOpen, DeliversIt, DeliversDue}
 use Rattle.link.specs.Pages.{rowOf, notesFrom, pageOf, pages, Sane}
 use Rattle.link.specs.Arrival.{Fronts, Brings, Between, Cut, ArrivesWhole}
-use Rattle.link.proofs.Table.{onTest}
 use Rattle.link.proofs.OpenRows.{OpenFacts, open-facts}
 use Rattle.link.proofs.Answers.{row-is, guard-is, open-test, opens-zero}
 use Rattle.link.proofs.Others.{row-open, with-id, settled-id, other-row, other-page}

@@ -12,12 +12,12 @@ use lib.Dec.{eqb, ltb, leb}
 use lib.ListN.{length, getD}
 use borrow.Author.Tests.{eqb-true, eqb-false, ltb-false, ne-eqb}
 use Rattle.numbers.specs.Bytes.{pick, part}
+use Rattle.numbers.proofs.Choices.{same-or-not, unless-elim, onTest}
 use Rattle.frame.specs.declared.Header.{Header}
 use Rattle.frame.specs.declared.Extent.{Extent}
 use Rattle.frame.specs.declared.Reading.{Reading}
 use Rattle.frame.specs.declared.Reading.the-variants as reading
 use Rattle.frame.specs.Read.{readOf}
-use Rattle.frame.proofs.Laws.{unless-elim}
 use Rattle.frame.proofs.ThereAndBack.{payload-length}
 use Rattle.session.specs.declared.Row.{Row}
 use Rattle.session.specs.declared.Act.{Act}
@@ -31,7 +31,7 @@ use Rattle.link.specs.Call.{After, Wish, old, new, bad, wishOf, opens, a
 use Rattle.link.specs.Book.{Request, Command, call, Ask, single, first, next, end, other, Seen, opening, within, nothing, askOf, seenIn, seenOf, Page, Book, written, lowestIn, newPage, pageAfterIf, noted, bookAfter}
 use Rattle.link.specs.Claim.{State, stateAfter, eventOf, isOpen}
 use Rattle.link.specs.Pages.{noteOf, notesFrom, pageOf, pageIf, pages, Sane}
-use Rattle.link.proofs.Table.{either, onTest, index-below, missing-set}
+use Rattle.link.proofs.Table.{index-below, missing-set}
 use Rattle.link.proofs.OpenRows.{open-facts}
 use Rattle.link.proofs.Others.{after-id, applied-leaves, entered-leaves}
 use Rattle.link.proofs.Opens.{lowest-same, entered, admitted-index}
@@ -84,7 +84,7 @@ module _ (s : State) (k : Sane s) where
   stays-closed j m x owners pool e d =
       let t : State = record { link = withOwners (withRow (s .link) m x) owners; pool = pool } in
       let shut : isOpen t j ≡ false
-      = either j 0 (λ z. subst (λ (y : ℕ). isOpen t y ≡ false) (sym z) (closed-zero t))
+      = same-or-not j 0 (λ z. subst (λ (y : ℕ). isOpen t y ≡ false) (sym z) (closed-zero t))
       (λ z. missing-closed t j (missing-set j (s .link .rows) m x (closed-index j e z) (λ u. z (d u)))) in
       closed-page t j shut ∙ sym (closed-page s j e)
 

@@ -11,14 +11,14 @@ use lib.ListN.{length, getD, take, length-append}
 use lib.Seq.{length-take-le}
 use borrow.Author.Tests.{eqb-true, eqb-false, eq-eqb, ne-eqb}
 use Rattle.numbers.specs.Bytes.{pick, part, laid}
+use Rattle.numbers.proofs.Choices.{and-both, either, unless-elim}
+use Rattle.blocks.specs.Map.{heldBy as blocksOf}
 use Rattle.frame.specs.declared.Header.{Header}
 use Rattle.frame.specs.declared.Extent.{Extent}
 use Rattle.frame.specs.declared.Reading.{Reading}
 use Rattle.frame.specs.declared.Reading.the-variants as reading
 use Rattle.frame.specs.Read.{readOf}
-use Rattle.frame.proofs.Laws.{either, unless-elim}
 use Rattle.frame.proofs.ThereAndBack.{payload-length}
-use Rattle.blocks.specs.Map.{heldBy as blocksOf}
 use Rattle.blocks.specs.Pool.{blockBytes, appended}
 use Rattle.blocks.proofs.Contents.{append-fits, bytes-length}
 use Rattle.session.specs.declared.Reassembly.{Reassembly}
@@ -38,7 +38,7 @@ use Rattle.link.specs.Book.{Request, Command, call, Ask, single, next, e
 use Rattle.link.specs.Claim.{State, eventOf, isOpen, isDelivery, DeliversDue}
 use Rattle.link.specs.Pages.{rowOf, noteOf, notesFrom, pageOf, pages, Sane}
 use Rattle.link.proofs.OpenRows.{open-facts}
-use Rattle.link.proofs.RowRules.{Fits, place-below, both, or-then}
+use Rattle.link.proofs.RowRules.{Fits, place-below, or-then}
 
 -- the note at a place is read off the message there
 pub notes-at : (s : State) (n from : ℕ) (ms : List Reassembly) (k : ℕ) → k < length ms → getD (notesFrom s n from ms) k noNote ≡ noteOf s n (from + k) (getD ms k noReassembly)
@@ -73,8 +73,8 @@ need-holds total = omega arith
 last-size : (m : Reassembly) (size : ℕ) → sized m size ≡ true → m .frames ≡ 1 → m .missing ≡ size
 unfolding sized
 last-size m size e f =
-    let p = both (leb size (m .missing)) _ e in
-    let q = both (leb (m .frames - 1) (m .missing - size)) _ (p .1) in
+    let p = and-both (leb size (m .missing)) _ e in
+    let q = and-both (leb (m .frames - 1) (m .missing - size)) _ (p .1) in
     eqb-true (m .missing) size (or-then (eqb (m .frames) 1) _ (q .1) (eq-eqb (m .frames) 1 f))
 
 -- the note of an open message under the frame's id: what its frame completes

@@ -10,6 +10,7 @@ use lib.Dec.{eqb, ltb, leb}
 use lib.ListN.{length, getD}
 use borrow.Author.Tests.{eqb-true, leb-true, ltb-true, eq-eqb, ne-eqb}
 use Rattle.numbers.specs.Bytes.{pick}
+use Rattle.numbers.proofs.Choices.{and-both}
 use Rattle.blocks.specs.Map.{heldBy, heldByAll}
 use Rattle.session.specs.declared.Reassembly.{Reassembly}
 use Rattle.session.specs.declared.Row.{Row}
@@ -19,8 +20,8 @@ use Rattle.link.specs.State.{indexOf, ownerOf, allFrom, roomFits, versio
 use Rattle.link.specs.Book.{Note, Page, needsIn, needsOf}
 use Rattle.link.specs.Claim.{State, isOpen, blocksOf}
 use Rattle.link.specs.Pages.{rowOf, noteOf, notesFrom, pageOf, pageIf, pages, FiveEach, Sane}
-use Rattle.link.proofs.Shown.{and-both, rules-say}
-use Rattle.link.proofs.Table.{index-row}
+use Rattle.link.proofs.Shown.{rules-say}
+use Rattle.link.proofs.Table.{index-row, owner-next}
 use Rattle.link.proofs.RowRules.{from-at}
 
 -- the rules of the row at an index
@@ -31,11 +32,6 @@ pub five-at : (rs : List Row) (k : ℕ) → FiveEach rs → k < length rs → le
 five-at [] k f h = absurd (omega arith)
 five-at (r ∷ rs) zero f h = f .0
 five-at (r ∷ rs) (suc k) f h = five-at rs k (f .1) (omega arith)
-
--- a row's owners follow one another
-owner-next : (i place : ℕ) → ownerOf i (suc place) ≡ suc (ownerOf i place)
-unfolding ownerOf
-owner-next i place = omega arith
 
 -- a message's need in the book is what it holds
 pick-need : (b : Bool) (x y : Note) → pick b x y .need ≡ pick b (x .need) (y .need)

@@ -9,6 +9,7 @@ use lib.Dec.{eqb, ltb, leb}
 use lib.ListN.{length, getD, set, getD-replicate}
 use borrow.Author.Tests.{eq-eqb, ne-eqb, leb-true, le-leb, ltb-true, not-true}
 use Rattle.numbers.specs.Bytes.{pick}
+use Rattle.numbers.proofs.Choices.{and-yes, and-both}
 use Rattle.blocks.specs.Map.{heldByAll, freeIn, heldBy as blocksOf}
 use Rattle.frame.specs.declared.SessionId.{SessionId}
 use Rattle.session.specs.declared.Reassembly.{Reassembly}
@@ -20,8 +21,8 @@ use Rattle.link.specs.declared.Grant.{Grant}
 use Rattle.link.specs.State.{all, allFrom, indexOf, ownerOf, sharesIn, distinctIds, roomFits, versionAllowed, messageFits, unsettledFits, blocksFit, freeFits, rowFits, rulesHold, grantFits, withRow, lowestFree}
 use Rattle.link.specs.Call.{admits}
 use Rattle.link.specs.Pages.{FiveEach}
-use Rattle.link.proofs.RowRules.{both, and-yes, all-at, blocks-say, say-blocks, held-idle, held-none, rules-of, opened-facts, opened-held}
-use Rattle.link.proofs.Table.{index-row, shares-set, distinct-set-new, lowest-of-eight, lowest-between}
+use Rattle.link.proofs.RowRules.{all-at, blocks-say, say-blocks, held-idle, held-none, rules-of, opened-facts}
+use Rattle.link.proofs.Table.{index-row, shares-set, distinct-set-new, lowest-of-eight, lowest-between, opened-held}
 use Rattle.link.proofs.TableRules.{rows-set}
 use Rattle.link.proofs.Holdings.{five-at, row-fits-at}
 
@@ -29,10 +30,10 @@ use Rattle.link.proofs.Holdings.{five-at, row-fits-at}
 free-blocks : (major : ℕ) (owners : List ℕ) (k : ℕ) (r : Row) → r .id .0 ≡ 0 → rowFits major owners k r ≡ true → (q : ℕ) → q < length (r .messages) → blocksOf (ownerOf k q) owners ≡ 0
 unfolding rowFits freeFits
 free-blocks major owners k r z e q h =
-    let p = both (blocksFit owners k r) _ e in
+    let p = and-both (blocksFit owners k r) _ e in
     let t : freeFits r ≡ true = free-part major r z (p .1) in
-    let a = both (eqb (r .guarantee) 0) _ t in
-    let b = both (eqb (r .cap) 0) (all (λ (m : Reassembly). not (m .live)) (r .messages)) (a .1) in
+    let a = and-both (eqb (r .guarantee) 0) _ t in
+    let b = and-both (eqb (r .cap) 0) (all (λ (m : Reassembly). not (m .live)) (r .messages)) (a .1) in
     let n : getD (r .messages) q noReassembly .live ≡ false = not-true (getD (r .messages) q noReassembly .live) (all-at (λ (m : Reassembly). not (m .live)) (r .messages) q noReassembly (b .1) h) in
     blocks-say owners k r (p .0) q h ∙ held-idle (getD (r .messages) q noReassembly) n
   where
@@ -62,11 +63,11 @@ opened-rules l g v eight five e f w a =
     let i : SessionId = record { 0 = lowestFree 255 1 rs } in
     let r : Row = openedRow i (g .guarantee) (g .cap) v (g .hash) in
     let major : ℕ = l .version .major in
-    let p₁ = both (distinctIds rs) _ e in
-    let p₂ = both (allFrom 0 (rowFits major (l .owners)) rs) _ (p₁ .1) in
-    let p₃ = both (leb (sharesIn rs) 256) (eqb (heldByAll 1 40 (l .owners) + freeIn (l .owners)) 256) (p₂ .1) in
-    let q = both (leb (g .guarantee) (g .cap)) (leb (g .cap) 256) f in
-    let u = both (ltb k (length rs)) (leb (sharesIn rs + g .guarantee) 256) w in
+    let p₁ = and-both (distinctIds rs) _ e in
+    let p₂ = and-both (allFrom 0 (rowFits major (l .owners)) rs) _ (p₁ .1) in
+    let p₃ = and-both (leb (sharesIn rs) 256) (eqb (heldByAll 1 40 (l .owners) + freeIn (l .owners)) 256) (p₂ .1) in
+    let q = and-both (leb (g .guarantee) (g .cap)) (leb (g .cap) 256) f in
+    let u = and-both (ltb k (length rs)) (leb (sharesIn rs + g .guarantee) 256) w in
     let b : k < length rs = ltb-true k (length rs) (u .0) in
     let room : sharesIn rs + g .guarantee ≤ 256 = leb-true (sharesIn rs + g .guarantee) 256 (u .1) in
     let old : rowFits major (l .owners) k (getD rs k noRow) ≡ true = row-fits-at major (l .owners) rs k (p₂ .0) b in

@@ -12,12 +12,12 @@ use lib.ListN.{length, set, length-set}
 use lib.Seq.{getD-set-same}
 use borrow.Author.Tests.{ltb-true, lt-ltb, ne-eqb}
 use Rattle.numbers.specs.Bytes.{pick, part}
+use Rattle.numbers.proofs.Choices.{and-both, unless-elim}
 use Rattle.frame.specs.declared.Header.{Header}
 use Rattle.frame.specs.declared.Extent.{Extent}
 use Rattle.frame.specs.declared.Reading.{Reading}
 use Rattle.frame.specs.declared.Reading.the-variants as reading
 use Rattle.frame.specs.Read.{readOf}
-use Rattle.frame.proofs.Laws.{unless-elim}
 use Rattle.session.specs.declared.Row.{Row}
 use Rattle.session.specs.Rows.{noRow, openedRow}
 use Rattle.link.specs.declared.Link.{Link}
@@ -26,7 +26,7 @@ use Rattle.link.specs.Call.{After, Wish, old, new, bad, wishOf, opens, a
 use Rattle.link.specs.Book.{Request, Command, call, Ask, opening, within, askOf, seenIn, seenOf, isAck, there, lowestIn}
 use Rattle.link.specs.Claim.{State, stateAfter, eventOf, isOpen, opensIt}
 use Rattle.link.specs.Pages.{rowOf, pages, Sane}
-use Rattle.link.proofs.Shown.{and-both, shown}
+use Rattle.link.proofs.Shown.{shown}
 use Rattle.link.proofs.Table.{index-set-new, lowest-of-eight, lowest-book}
 
 -- a session that is open has its id in a row

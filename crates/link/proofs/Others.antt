@@ -12,13 +12,13 @@ use lib.ListN.{length, getD, set, length-set}
 use lib.Seq.{getD-set-other}
 use borrow.Author.Tests.{ltb-true, lt-ltb, eq-eqb}
 use Rattle.numbers.specs.Bytes.{pick, part}
+use Rattle.numbers.proofs.Choices.{and-both, either, unless-elim}
 use Rattle.frame.specs.declared.Header.{Header}
 use Rattle.frame.specs.declared.Extent.{Extent}
 use Rattle.frame.specs.declared.ServiceType.{ServiceType}
 use Rattle.frame.specs.declared.Reading.{Reading}
 use Rattle.frame.specs.declared.Reading.the-variants as reading
 use Rattle.frame.specs.Read.{readOf}
-use Rattle.frame.proofs.Laws.{either, unless-elim}
 use Rattle.frame.proofs.Answers.{is-frame, session-fourth}
 use Rattle.blocks.specs.Map.{released}
 use Rattle.blocks.specs.Pool.{blockBytes, appended}
@@ -37,9 +37,8 @@ use Rattle.link.specs.Call.{After, Wish, old, new, bad, wishOf, opens, a
 use Rattle.link.specs.Book.{Request, Command, call, names}
 use Rattle.link.specs.Claim.{State, stateAfter, isOpen}
 use Rattle.link.specs.Pages.{rowOf, noteOf, notesFrom, pageIf, pages, Sane}
-use Rattle.link.proofs.Shown.{and-both}
 use Rattle.link.proofs.Holdings.{open-index, five-at}
-use Rattle.link.proofs.Table.{index-set-other, lowest-of-eight, index-row}
+use Rattle.link.proofs.Table.{index-set-other, lowest-of-eight, index-row, owner-some}
 use Rattle.link.proofs.RowRules.{place-below}
 
 -- no method of a row but its closing changes its id
@@ -76,10 +75,6 @@ after-id r h hash Single = inl (settled-id r (h .version))
 owner-other : (n m q place : ℕ) → (n ≡ m → ⊥) → q < 5 → place < 5 → ownerOf n q ≡ ownerOf m place → ⊥
 unfolding ownerOf
 owner-other n m q place d a b e = omega arith
-
-pub owner-some : (n q : ℕ) → ownerOf n q ≡ 0 → ⊥
-unfolding ownerOf
-owner-some n q e = omega arith
 
 owner-outside : (n m q : ℕ) → (n ≡ m → ⊥) → q < 5 → ownerOf m 0 ≤ ownerOf n q → ownerOf n q ≤ ownerOf m 4 → ⊥
 unfolding ownerOf

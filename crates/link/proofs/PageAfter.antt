@@ -11,11 +11,11 @@ use lib.Dec.{eqb, leb}
 use lib.ListN.{length, getD, set, length-set, take}
 use lib.Seq.{getD-set-same}
 use borrow.Author.Tests.{eqb-true, eqb-false, leb-true, eq-eqb, ne-eqb, lt-ltb, le-ltb}
+use Rattle.numbers.proofs.Choices.{and-both, either, unless-elim}
 use Rattle.frame.specs.declared.Header.{Header}
 use Rattle.frame.specs.declared.MessageId.{MessageId}
 use Rattle.frame.specs.declared.ServiceType.{ServiceType}
 use Rattle.frame.specs.Message.{totalsFit}
-use Rattle.frame.proofs.Laws.{either, unless-elim}
 use Rattle.blocks.specs.Map.{heldBy as blocksOf, claimed, released}
 use Rattle.blocks.specs.Pool.{blockBytes, appended}
 use Rattle.blocks.proofs.Contents.{append-fits, append-others, claim-bytes, release-bytes}
@@ -30,14 +30,13 @@ use Rattle.session.specs.Rules.{barredBy}
 use Rattle.session.specs.Decide.{placeOf, needOf, heldBy, heldOf, firstOf, dueNumber, sized, nextFor, singleOf, startable, startOf, endable, hashOf, endOf, controlOf, contentOf, rowAfter}
 use Rattle.link.specs.State.{indexOf, ownerOf, withRow, withOwners}
 use Rattle.link.specs.Call.{After, saidOf, decisionOf, applied}
-use Rattle.link.specs.declared.Answer.the-variants as answer
 use Rattle.link.specs.Book.{Request, Ask, single, first, next, end, other, askOf, Note, noNote, Page, noteAt, withNote, isUnder, added, struck, pageAfter}
 use Rattle.link.specs.Claim.{State, isOpen}
 use Rattle.link.specs.Pages.{rowOf, noteOf, notesFrom, pageOf, pageIf, pages, Sane}
 use Rattle.link.proofs.Shown.{rules-say}
 use Rattle.link.proofs.Table.{index-set-same, index-set-gone}
-use Rattle.link.proofs.RowRules.{OpenFits, Fits, place-below, both, barred-most}
-use Rattle.link.proofs.Others.{owner-some}
+use Rattle.link.proofs.RowRules.{OpenFits, Fits, place-below, barred-most}
+use Rattle.link.proofs.Table.{owner-some}
 use Rattle.link.proofs.Deliveries.{notes-at, both-by, need-holds}
 
 -- ---- rows
@@ -319,7 +318,7 @@ module _ (s : State) (i n : ℕ) (k : Sane s) (at : indexOf i (s .link .rows) �
 
       size-most : h .size ≤ m .missing
       unfolding sized
-      size-most = leb-true (h .size) (m .missing) (both (leb (h .size) (m .missing)) _ sizes .0)
+      size-most = leb-true (h .size) (m .missing) (and-both (leb (h .size) (m .missing)) _ sizes .0)
 
       has-room : m .total ≤ 256 * blocksOf (ownerOf n place) (s .link .owners)
       unfolding heldBy

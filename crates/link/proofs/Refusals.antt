@@ -10,28 +10,27 @@ use lib.Dec.{eqb, ltb, leb}
 use lib.ListN.{length, getD}
 use Rattle.numbers.specs.Bytes.{part}
 use Rattle.numbers.specs.Numbers.{valueBe}
+use Rattle.numbers.proofs.Choices.{either, unless-elim}
 use Rattle.frame.specs.declared.Header.{Header}
 use Rattle.frame.specs.declared.Extent.{Extent}
 use Rattle.frame.specs.declared.Reading.{Reading}
 use Rattle.frame.specs.declared.Reading.the-variants as reading
 use Rattle.frame.specs.Message.{totalsFit}
 use Rattle.frame.specs.Read.{frontOf, readOf}
-use Rattle.frame.proofs.Laws.{either, unless-elim, fault-most}
+use Rattle.frame.proofs.Laws.{fault-most}
 use Rattle.frame.proofs.Answers.{is-refused}
-use Rattle.blocks.specs.Map.{released}
 use Rattle.session.specs.declared.Reassembly.{Reassembly}
 use Rattle.session.specs.declared.Row.{Row}
 use Rattle.session.specs.declared.Said.{Said}
 use Rattle.session.specs.declared.Act.{Act}
 use Rattle.session.specs.declared.Act.the-variants.{Refuse, Drop, Accept, Beat, Start, NoStart, Stop, Close, NoEnd, Claim, Append, Deliver, Single}
-use Rattle.session.specs.Rows.{noRow, messageAt, droppedRow}
+use Rattle.session.specs.Rows.{noRow, messageAt}
 use Rattle.session.specs.Rules.{barredBy}
 use Rattle.session.specs.Decide.{placeOf, needOf, heldOf, shareOf, dueNumber, sized, firstOf, nextFor, singleOf, startable, startOf, endable, hashOf, endOf, controlOf, contentOf}
 use Rattle.link.specs.declared.Link.{Link}
 use Rattle.link.specs.declared.Grant.{Grant}
-use Rattle.link.specs.declared.Answer.{Answer}
 use Rattle.link.specs.declared.Answer.the-variants as answer
-use Rattle.link.specs.State.{indexOf, ownerOf, sharesIn, guardOf, withRow, withOwners}
+use Rattle.link.specs.State.{indexOf, sharesIn, guardOf}
 use Rattle.link.specs.Call.{After, Wish, old, new, bad, wishOf, opens, admits, openingBy, saidOf, decisionOf, applied, frameOf, readingOf, callOf}
 use Rattle.link.specs.Refusal.{KeepsOn, RefusalKeeps}
 use Rattle.link.proofs.RowRules.{barred-most}

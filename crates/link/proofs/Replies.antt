@@ -13,13 +13,14 @@ use lib.Seq.{drop-at}
 use Rattle.numbers.specs.Bytes.{pick, part, laid}
 use Rattle.numbers.specs.Numbers.{bytesBe}
 use Rattle.numbers.proofs.Laws.{length-be}
+use Rattle.numbers.proofs.Choices.{either}
 use Rattle.frame.specs.declared.Header.{Header}
 use Rattle.frame.specs.declared.ServiceType.{ServiceType}
 use Rattle.frame.specs.declared.Reading.the-variants.{Frame}
 use Rattle.frame.specs.Rules.{listedService, infoFits, flagFits, largest, sizeFits, faultOf}
 use Rattle.frame.specs.Read.{extentOf, readOf}
 use Rattle.frame.specs.Write.{messageBytes, frameBytes}
-use Rattle.frame.proofs.Laws.{no-fault, known, largest-range, frame-length, either}
+use Rattle.frame.proofs.Laws.{no-fault, known, largest-range, frame-length}
 use Rattle.frame.proofs.ThereAndBack.{read-back, laid-arrives}
 use Rattle.payload.specs.declared.version.Version.{Version}
 use Rattle.payload.specs.declared.reply.Parameter.the-variants as parameter

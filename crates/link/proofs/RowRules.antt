@@ -11,6 +11,7 @@ use lib.Seq.{getD-set-same, getD-set-other}
 use borrow.Author.Tests.{leb-true, eqb-true, eqb-false, not-true, lt-ltb, le-leb, eq-eqb, ne-eqb}
 use Rattle.numbers.specs.Bytes.{pick, part}
 use Rattle.numbers.specs.Numbers.{valueBe}
+use Rattle.numbers.proofs.Choices.{and-yes, and-both, split, either, unless-elim, onTest}
 use Rattle.blocks.specs.Map.{heldBy as blocksOf}
 use Rattle.frame.specs.declared.Header.{Header}
 use Rattle.frame.specs.declared.ServiceType.{ServiceType}
@@ -18,7 +19,7 @@ use Rattle.frame.specs.declared.MessageId.{MessageId}
 use Rattle.frame.specs.declared.SessionId.{SessionId}
 use Rattle.frame.specs.Rules.{listedService}
 use Rattle.frame.specs.Message.{totalsFit}
-use Rattle.frame.proofs.Laws.{either, unless-elim, passed, Sound, version-range}
+use Rattle.frame.proofs.Laws.{passed, Sound, version-range}
 use Rattle.session.specs.declared.Reassembly.{Reassembly}
 use Rattle.session.specs.declared.Running.{Running}
 use Rattle.session.specs.declared.Row.{Row}
@@ -33,22 +34,6 @@ use Rattle.link.specs.declared.Link.{Link}
 use Rattle.link.specs.Call.{decisionOf, saidOf, oldVersion}
 
 -- ---- tests
-
--- cases on a test: the motive has the test's value for a variable
-onTest : (P : Bool → Type 0) (b : Bool) → (b ≡ true → P true) → (b ≡ false → P false) → P b
-onTest P true f g = f refl
-onTest P false f g = g refl
-
-split : {P : Type 0} (b : Bool) → (b ≡ true → P) → (b ≡ false → P) → P
-split true f g = f refl
-split false f g = g refl
-
-pub both : (b c : Bool) → b && c ≡ true → (b ≡ true) × (c ≡ true)
-both true c e = (refl, e)
-both false c e = (e, cc)
-
-pub and-yes : (b c : Bool) → b ≡ true → c ≡ true → b && c ≡ true
-and-yes b c e f = rw (e, f)
 
 pub or-then : (b c : Bool) → not b || c ≡ true → b ≡ true → c ≡ true
 or-then true c e f = e
@@ -74,10 +59,10 @@ module _ {A : Type 0} where
   -- a test of all, at one place
   pub from-at : (n : ℕ) (test : ℕ → A → Bool) (l : List A) (k : ℕ) (d : A) → allFrom n test l ≡ true → k < length l → test (n + k) (getD l k d) ≡ true
   from-at n test [] k d e h = absurd (omega arith)
-  from-at n test (a ∷ l) zero d e h = let z : n + 0 ≡ n = omega arith in rw z (both (test n a) (allFrom (suc n) test l) e .0)
+  from-at n test (a ∷ l) zero d e h = let z : n + 0 ≡ n = omega arith in rw z (and-both (test n a) (allFrom (suc n) test l) e .0)
   from-at n test (a ∷ l) (suc k) d e h =
       let z : n + suc k ≡ suc n + k = omega arith in
-      rw z (from-at (suc n) test l k d (both (test n a) (allFrom (suc n) test l) e .1) (omega arith))
+      rw z (from-at (suc n) test l k d (and-both (test n a) (allFrom (suc n) test l) e .1) (omega arith))
 
   pub from-make : (n : ℕ) (test : ℕ → A → Bool) (l : List A) (d : A) → ((k : ℕ) → k < length l → test (n + k) (getD l k d) ≡ true) → allFrom n test l ≡ true
   from-make n test [] d f = refl
@@ -88,8 +73,8 @@ module _ {A : Type 0} where
 
   pub all-at : (test : A → Bool) (l : List A) (k : ℕ) (d : A) → all test l ≡ true → k < length l → test (getD l k d) ≡ true
   all-at test [] k d e h = absurd (omega arith)
-  all-at test (a ∷ l) zero d e h = both (test a) (all test l) e .0
-  all-at test (a ∷ l) (suc k) d e h = all-at test l k d (both (test a) (all test l) e .1) (omega arith)
+  all-at test (a ∷ l) zero d e h = and-both (test a) (all test l) e .0
+  all-at test (a ∷ l) (suc k) d e h = all-at test l k d (and-both (test a) (all test l) e .1) (omega arith)
 
   pub all-make : (test : A → Bool) (l : List A) (d : A) → ((k : ℕ) → k < length l → test (getD l k d) ≡ true) → all test l ≡ true
   all-make test [] d f = refl
@@ -185,11 +170,11 @@ pub fits-open : (r : Row) (k : ℕ) (m : Reassembly) → messageFits r k m ≡ t
 unfolding messageFits
 fits-open r k m e l =
     let p₀ = or-then (m .live) _ e l in
-    let p₁ = both (runsAt r k) _ p₀ in
-    let p₂ = both (totalsFit (m .total) (m .count)) _ (p₁ .1) in
-    let p₃ = both (leb 1 (m .frames)) _ (p₂ .1) in
-    let p₄ = both (leb (m .frames) (m .count)) _ (p₃ .1) in
-    let p₅ = both (leb (m .frames) (m .missing)) (leb (m .missing) (m .total)) (p₄ .1) in
+    let p₁ = and-both (runsAt r k) _ p₀ in
+    let p₂ = and-both (totalsFit (m .total) (m .count)) _ (p₁ .1) in
+    let p₃ = and-both (leb 1 (m .frames)) _ (p₂ .1) in
+    let p₄ = and-both (leb (m .frames) (m .count)) _ (p₃ .1) in
+    let p₅ = and-both (leb (m .frames) (m .missing)) (leb (m .missing) (m .total)) (p₄ .1) in
     record {
       running = p₁ .0;
       totals = p₂ .0;
@@ -233,8 +218,8 @@ pub record RowRules (major : ℕ) (r : Row) : Type 0 where
 pub facts-of : (major : ℕ) (r : Row) → length (r .messages) ≡ 5 → RowRules major r → RowFacts major r
 unfolding roomFits unsettledFits
 facts-of major r l g =
-    let p = both (leb (r .guarantee) (r .cap)) _ (g .room) in
-    let q = both (leb (r .cap) 256) (leb (heldOf r) (r .cap)) (p .1) in
+    let p = and-both (leb (r .guarantee) (r .cap)) _ (g .room) in
+    let q = and-both (leb (r .cap) 256) (leb (heldOf r) (r .cap)) (p .1) in
     record {
       offer = leb-true (r .guarantee) (r .cap) (p .0);
       most = leb-true (r .cap) 256 (q .0);
@@ -267,10 +252,10 @@ fits-none b l = no-both true refl (sym l)
 pub fits-announced : (b : Bool) (i : MessageId) (total count : ℕ) → b ≡ true → totalsFit total count ≡ true → Fits b (announced i total count)
 unfolding totalsFit
 fits-announced b i total count e t l =
-    let p₁ = both (leb 1 total) _ t in
-    let p₂ = both (leb total 65536) _ (p₁ .1) in
-    let p₃ = both (leb 1 count) _ (p₂ .1) in
-    let p₄ = both (leb count 256) (leb count total) (p₃ .1) in
+    let p₁ = and-both (leb 1 total) _ t in
+    let p₂ = and-both (leb total 65536) _ (p₁ .1) in
+    let p₃ = and-both (leb 1 count) _ (p₂ .1) in
+    let p₄ = and-both (leb count 256) (leb count total) (p₃ .1) in
     record {
       running = e;
       totals = t;
@@ -285,8 +270,8 @@ pub fits-shortened : (b : Bool) (m : Reassembly) (size : ℕ) → Fits b m → s
 unfolding sized
 fits-shortened b m size f s n l =
     let o = f l in
-    let p = both (leb size (m .missing)) _ s in
-    let q = both (leb (m .frames - 1) (m .missing - size)) _ (p .1) in
+    let p = and-both (leb size (m .missing)) _ s in
+    let q = and-both (leb (m .frames - 1) (m .missing - size)) _ (p .1) in
     let a = o .some-frames in
     let d = o .frames-most in
     let c = o .missing-most in
@@ -878,10 +863,6 @@ opened-facts major i g c v hash a b e = record {
   messages = λ k h. subst (Fits (runsAt (openedRow i g c v hash) k)) (sym (getD-replicate 5 k noReassembly noReassembly h)) (fits-none _);
   five = refl;
 }
-
-pub opened-held : (i : SessionId) (g c v hash : ℕ) → heldOf (openedRow i g c v hash) ≡ 0
-unfolding heldIn heldBy
-opened-held i g c v hash = refl
 
 -- the versions that an opening gives are allowed
 pub old-allowed : (major : ℕ) → 1 ≤ major → versionAllowed major (oldVersion major) ≡ true

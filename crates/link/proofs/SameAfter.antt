@@ -11,12 +11,12 @@ use lib.Dec.{T, eqb, leb}
 use lib.ListN.{length, getD}
 use borrow.Author.Tests.{eqb-true}
 use Rattle.numbers.specs.Bytes.{pick, part}
+use Rattle.numbers.proofs.Choices.{either, onTest}
 use Rattle.frame.specs.declared.Header.{Header}
 use Rattle.frame.specs.declared.Extent.{Extent}
 use Rattle.frame.specs.declared.Reading.{Reading}
 use Rattle.frame.specs.declared.Reading.the-variants as reading
 use Rattle.frame.specs.Read.{readOf}
-use Rattle.frame.proofs.Laws.{either}
 use Rattle.session.specs.declared.Row.{Row}
 use Rattle.session.specs.declared.Act.{Act}
 use Rattle.session.specs.declared.Act.the-variants.{Refuse, Drop, Accept, Beat, Start, NoStart, Stop, Close, NoEnd, Claim, Append, Deliver, Single}
@@ -30,7 +30,7 @@ use Rattle.link.specs.Book.{Request, Command, call, Event, Ask, single, 
 use Rattle.link.specs.Claim.{State, stateAfter, eventOf, isOpen}
 use Rattle.link.specs.Pages.{rowOf, pages, Sane}
 use Rattle.link.proofs.Shown.{shown}
-use Rattle.link.proofs.Table.{onTest, index-row}
+use Rattle.link.proofs.Table.{index-row}
 use Rattle.link.proofs.Holdings.{open-index}
 use Rattle.link.proofs.Others.{row-open, with-id, settled-id, service-id}
 use Rattle.link.proofs.PageAfter.{never, stored-row, gone-page}

@@ -2,12 +2,13 @@
 -- Assumes nothing.
 use Prim.Native.Nat.{ℕ, _+_, _≤_}
 use mathlib.Core.Path.{_≡_, refl}
-use mathlib.Core.Bool.{Bool, true, false, _&&_}
+use mathlib.Core.Bool.{Bool, true, false}
 use mathlib.Core.Option.{none, some}
 use lib.Dec.{eqb, leb}
 use lib.ListN.{getD}
 use borrow.Author.Tests.{eqb-true, leb-true}
 use Rattle.numbers.specs.Bytes.{pick}
+use Rattle.numbers.proofs.Choices.{and-both}
 use Rattle.blocks.specs.Map.{heldByAll, freeIn}
 use Rattle.session.specs.declared.Row.{Row}
 use Rattle.session.specs.Rows.{noRow}
@@ -16,10 +17,6 @@ use Rattle.link.specs.State.{indexOf, distinctIds, allFrom, rowFits, sha
 use Rattle.link.specs.Book.{there}
 use Rattle.link.specs.Claim.{State, isOpen}
 use Rattle.link.specs.Pages.{rowOf, pageIf, pages, Sane}
-
-pub and-both : (b c : Bool) → b && c ≡ true → (b ≡ true) × (c ≡ true)
-and-both true c e = (refl, e)
-and-both false c e = (e, cc)
 
 -- the state rules, one by one
 pub record Rules (l : Link) : Type 0 where

@@ -10,24 +10,16 @@ use lib.Dec.{eqb, ltb}
 use lib.ListN.{length, getD, set}
 use borrow.Author.Tests.{eqb-true, eqb-false, eq-eqb, ne-eqb, lt-ltb, le-ltb}
 use Rattle.numbers.specs.Bytes.{pick}
+use Rattle.numbers.proofs.Choices.{and-yes, same-or-not, onTest}
 use Rattle.session.specs.declared.Row.{Row}
 use Rattle.frame.specs.declared.SessionId.{SessionId}
 use Rattle.session.specs.Rows.{noRow, freeRow, openedRow}
 use Rattle.session.specs.Decide.{heldBy, heldIn, heldOf, shareOf}
-use Rattle.link.specs.State.{indexOf, sharesIn, distinctIds, lowestFree}
+use Rattle.link.specs.State.{indexOf, ownerOf, sharesIn, distinctIds, lowestFree}
 use Rattle.link.specs.Book.{Book, there, lowestIn}
 use Rattle.link.specs.Pages.{FiveEach}
 
 -- ---- cases
-
--- cases on a test, with its equation: the motive has the test's value for a variable
-pub onTest : (P : Bool → Type 0) (b : Bool) → (b ≡ true → P true) → (b ≡ false → P false) → P b
-onTest P true f g = f refl
-onTest P false f g = g refl
-
--- two numbers are equal, or not
-pub either : {P : Type 0} (a b : ℕ) → (a ≡ b → P) → (a ≢ b → P) → P
-either {P} a b f g = onTest (λ (t : Bool). P) (eqb a b) (λ e. f (eqb-true a b e)) (λ e. g (eqb-false a b e))
 
 -- the first of two tests that hold together
 pub and-left : (a b : Bool) → a && b ≡ true → a ≡ true
@@ -38,11 +30,6 @@ and-left false b e = e
 pub and-right : (a b : Bool) → a && b ≡ true → b ≡ true
 and-right true b e = e
 and-right false b e = let z : _≡_ {A = ℕ} 0 1 = cc in absurd (omega arith)
-
--- and back
-pub and-both : (a b : Bool) → a ≡ true → b ≡ true → a && b ≡ true
-and-both true b p q = q
-and-both false b p q = p
 
 -- ---- 1. where an id stands
 
@@ -69,7 +56,7 @@ index-none i = refl
 pub index-below : (i : ℕ) (rs : List Row) → indexOf i rs ≤ length rs
 index-below i [] = omega (arith, index-none i)
 index-below i (r ∷ rs) =
-    either (r .id .0) i
+    same-or-not (r .id .0) i
     (λ e. omega (arith, index-here i r rs e))
     (λ n. omega (arith, index-later i r rs n, index-below i rs))
 
@@ -77,7 +64,7 @@ index-below i (r ∷ rs) =
 pub index-row : (i : ℕ) (rs : List Row) → indexOf i rs < length rs → idAt rs (indexOf i rs) ≡ i
 index-row i [] h = absurd (omega arith)
 index-row i (r ∷ rs) h =
-    either (r .id .0) i
+    same-or-not (r .id .0) i
     (λ e. ap (λ (k : ℕ). idAt (r ∷ rs) k) (index-here i r rs e) ∙ e)
     (λ n. ap (λ (k : ℕ). idAt (r ∷ rs) k) (index-later i r rs n) ∙ index-row i rs (omega (arith, index-later i r rs n)))
 
@@ -86,7 +73,7 @@ pub index-first : (i : ℕ) (rs : List Row) (j : ℕ) → j < length rs → idAt
 index-first i [] j h e = absurd (omega arith)
 index-first i (r ∷ rs) zero h e = omega (arith, index-here i r rs e)
 index-first i (r ∷ rs) (suc j) h e =
-    either (r .id .0) i
+    same-or-not (r .id .0) i
     (λ q. omega (arith, index-here i r rs q))
     (λ n. omega (arith, index-later i r rs n, index-first i rs j (omega arith) e))
 
@@ -123,7 +110,7 @@ distinct-tail r rs e = and-right (eqb (r .id .0) 0 || eqb (indexOf (r .id .0) rs
 pub distinct-cons : (r : Row) (rs : List Row) → (r .id .0 ≢ 0 → indexOf (r .id .0) rs ≡ length rs) → distinctIds rs ≡ true → distinctIds (r ∷ rs) ≡ true
 unfolding distinctIds
 distinct-cons r rs f e =
-    and-both (eqb (r .id .0) 0 || eqb (indexOf (r .id .0) rs) (length rs)) (distinctIds rs)
+    and-yes (eqb (r .id .0) 0 || eqb (indexOf (r .id .0) rs) (length rs)) (distinctIds rs)
     (onTest (λ (t : Bool). t || eqb (indexOf (r .id .0) rs) (length rs) ≡ true) (eqb (r .id .0) 0)
     (λ q. refl)
     (λ q. eq-eqb (indexOf (r .id .0) rs) (length rs) (f (eqb-false (r .id .0) 0 q))))
@@ -134,7 +121,7 @@ pub index-unique : (i : ℕ) (rs : List Row) (j : ℕ) → distinctIds rs ≡ tr
 index-unique i [] j g h e z = absurd (omega arith)
 index-unique i (r ∷ rs) zero g h e z = sym (index-here i r rs e)
 index-unique i (r ∷ rs) (suc j) g h e z =
-    either (r .id .0) i
+    same-or-not (r .id .0) i
     (λ q. let m : indexOf i rs ≡ length rs = subst (λ (k : ℕ). indexOf k rs ≡ length rs) q (distinct-head r rs g (λ w. z (sym q ∙ w))) in
     absurd (index-missing i rs m j (omega arith) e))
     (λ n. ap suc (index-unique i rs j (distinct-tail r rs g) (omega arith) e z) ∙ sym (index-later i r rs n))
@@ -146,7 +133,7 @@ pub index-set-other : (i : ℕ) (rs : List Row) (k : ℕ) (r : Row) → idAt rs 
 index-set-other i [] k r a b = refl
 index-set-other i (q ∷ rs) zero r a b = index-later i r rs b ∙ sym (index-later i q rs a)
 index-set-other i (q ∷ rs) (suc k) r a b =
-    either (q .id .0) i
+    same-or-not (q .id .0) i
     (λ e. index-here i q (set rs k r) e ∙ sym (index-here i q rs e))
     (λ n. index-later i q (set rs k r) n ∙ ap suc (index-set-other i rs k r a b) ∙ sym (index-later i q rs n))
 
@@ -154,11 +141,11 @@ index-set-other i (q ∷ rs) (suc k) r a b =
 pub index-set-same : (i : ℕ) (rs : List Row) (k : ℕ) (r : Row) → r .id .0 ≡ idAt rs k → indexOf i (set rs k r) ≡ indexOf i rs
 index-set-same i [] k r e = refl
 index-set-same i (q ∷ rs) zero r e =
-    either (q .id .0) i
+    same-or-not (q .id .0) i
     (λ h. index-here i r rs (e ∙ h) ∙ sym (index-here i q rs h))
     (λ n. index-later i r rs (λ h. n (sym e ∙ h)) ∙ sym (index-later i q rs n))
 index-set-same i (q ∷ rs) (suc k) r e =
-    either (q .id .0) i
+    same-or-not (q .id .0) i
     (λ h. index-here i q (set rs k r) h ∙ sym (index-here i q rs h))
     (λ n. index-later i q (set rs k r) n ∙ ap suc (index-set-same i rs k r e) ∙ sym (index-later i q rs n))
 
@@ -256,12 +243,12 @@ in-a-row : (k : ℕ) (rs : List Row) → indexOf k rs ≢ length rs → inRow k 
 in-a-row k rs h = ap (λ (t : Bool). pick {A = ℕ} t 0 1) (ne-eqb (indexOf k rs) (length rs) h)
 
 in-one : (k : ℕ) (rs : List Row) → inRow k rs ≤ 1
-in-one k rs = either (indexOf k rs) (length rs) (λ e. omega (arith, in-no-row k rs e)) (λ n. omega (arith, in-a-row k rs n))
+in-one k rs = same-or-not (indexOf k rs) (length rs) (λ e. omega (arith, in-no-row k rs e)) (λ n. omega (arith, in-a-row k rs n))
 
 -- a row with another id is none for this one
 in-rest : (k : ℕ) (r : Row) (rs : List Row) → r .id .0 ≢ k → inRow k (r ∷ rs) ≡ inRow k rs
 in-rest k r rs n =
-    either (indexOf k rs) (length rs)
+    same-or-not (indexOf k rs) (length rs)
     (λ e. in-no-row k (r ∷ rs) (missing-cons k r rs n e) ∙ sym (in-no-row k rs e))
     (λ h. in-a-row k (r ∷ rs) (λ e. h (missing-tail k r rs e)) ∙ sym (in-a-row k rs h))
 
@@ -275,7 +262,7 @@ taken-row : (n k : ℕ) (r : Row) (rs : List Row) → taken n k (r ∷ rs) ≤ s
 unfolding taken
 taken-row zero k r rs = omega arith
 taken-row (suc n) k r rs =
-    either (r .id .0) k
+    same-or-not (r .id .0) k
     (λ e. omega (arith, in-one k (r ∷ rs), taken-past n (suc k) r rs (omega arith)))
     (λ h. omega (arith, in-rest k r rs h, taken-row n (suc k) r rs))
 
@@ -293,14 +280,14 @@ taken-all : (n k : ℕ) (rs : List Row) → 0 < k → lowestFree n k rs ≡ 0 �
 unfolding taken
 taken-all zero k rs h e = refl
 taken-all (suc n) k rs h e =
-    either (indexOf k rs) (length rs)
+    same-or-not (indexOf k rs) (length rs)
     (λ q. absurd (omega (arith, lowest-here n k rs q)))
     (λ q. omega (arith, in-a-row k rs q, taken-all n (suc k) rs (omega arith) (sym (lowest-later n k rs q) ∙ e)))
 
 -- with more ids than rows, one is found
 pub lowest-some : (n k : ℕ) (rs : List Row) → 0 < k → length rs < n → 0 < lowestFree n k rs
 lowest-some n k rs h s =
-    either (lowestFree n k rs) 0
+    same-or-not (lowestFree n k rs) 0
     (λ e. absurd (omega (arith, taken-all n k rs h e, taken-most n k rs)))
     (λ q. omega arith)
 
@@ -315,7 +302,7 @@ pub record Lowest (n k : ℕ) (rs : List Row) (i : ℕ) : Type 0 where
 pub lowest-is : (n k : ℕ) (rs : List Row) → 0 < lowestFree n k rs → Lowest n k rs (lowestFree n k rs)
 lowest-is zero k rs h = absurd (omega (arith, lowest-none k rs))
 lowest-is (suc n) k rs h =
-    either (indexOf k rs) (length rs)
+    same-or-not (indexOf k rs) (length rs)
     (λ e. subst (Lowest (suc n) k rs) (sym (lowest-here n k rs e))
     (record { from = omega arith; to = omega arith; unused = e; used = λ j p q. absurd (omega arith) }))
     (λ d. let w = lowest-is n (suc k) rs (omega (arith, lowest-later n k rs d)) in
@@ -324,7 +311,7 @@ lowest-is (suc n) k rs h =
       from = omega (arith, w .from);
       to = omega (arith, w .to);
       unused = w .unused;
-      used = λ j p q. either j k
+      used = λ j p q. same-or-not j k
           (λ e. subst (λ (x : ℕ). indexOf x rs < length rs) (sym e) (omega (arith, index-below k rs)))
           (λ f. w .used j (omega arith) q);
     }))
@@ -343,7 +330,7 @@ pub lowest-book : (b : Book) (rs : List Row) → ((i : ℕ) → 1 ≤ i → ther
 unfolding lowestIn
 lowest-book b rs f zero k h = sym (lowest-none k rs)
 lowest-book b rs f (suc n) k h =
-    either (indexOf k rs) (length rs)
+    same-or-not (indexOf k rs) (length rs)
     (λ e. ap (λ (t : Bool). pick t (lowestIn b n (suc k)) k) (f k h ∙ le-ltb (indexOf k rs) (length rs) (omega arith)) ∙ sym (lowest-here n k rs e))
     (λ d. ap (λ (t : Bool). pick t (lowestIn b n (suc k)) k) (f k h ∙ lt-ltb (indexOf k rs) (length rs) (omega (arith, index-below k rs)))
     ∙ lowest-book b rs f n (suc k) (omega arith) ∙ sym (lowest-later n k rs d))
@@ -365,3 +352,13 @@ free-held = refl
 pub opened-held : (i : SessionId) (g c v h : ℕ) → heldOf (openedRow i g c v h) ≡ 0
 unfolding heldIn heldBy
 opened-held i g c v h = refl
+
+-- ---- the owners' numbers
+
+pub owner-next : (i place : ℕ) → ownerOf i (suc place) ≡ suc (ownerOf i place)
+unfolding ownerOf
+owner-next i place = omega arith
+
+pub owner-some : (i place : ℕ) → ownerOf i place ≡ 0 → ⊥
+unfolding ownerOf
+owner-some i place e = omega arith

@@ -9,6 +9,7 @@ use lib.Dec.{eqb, leb}
 use lib.ListN.{length, getD, set, length-set, getD-replicate}
 use borrow.Author.Tests.{eqb-true, eqb-false, eq-eqb, ne-eqb, leb-true, le-leb}
 use Rattle.numbers.specs.Bytes.{pick}
+use Rattle.numbers.proofs.Choices.{and-yes, and-both}
 use Rattle.frame.specs.declared.Header.{Header}
 use Rattle.session.specs.declared.Row.{Row}
 use Rattle.session.specs.declared.Act.{Act}
@@ -26,14 +27,8 @@ use Rattle.link.specs.Call.{After, applied, decisionOf}
 use Rattle.frame.proofs.Laws.{Sound}
 use Rattle.link.specs.Pages.{FiveEach, Sane}
 use Rattle.link.proofs.Holdings.{five-at, row-fits-at}
-use Rattle.link.proofs.Table.{shares-set}
-use Rattle.link.proofs.RowRules.{RowFacts, facts-of, decision-kept, place-below, both, and-yes, from-make, set-each, RowKept, Outcome, after-shares, after-five, after-id, after-row-fits, blocks-say, say-blocks, blocks-kept, blocks-same, free-held, held-none}
-
-pub shares-most : (rs : List Row) (i : ℕ) → i < length rs → shareOf (getD rs i noRow) ≤ sharesIn rs
-unfolding sharesIn
-shares-most [] i h = absurd (omega arith)
-shares-most (a ∷ rs) zero h = omega arith
-shares-most (a ∷ rs) (suc i) h = omega (arith, shares-most rs i (omega arith))
+use Rattle.link.proofs.Table.{shares-set, share-below, five-set, owner-next, owner-some}
+use Rattle.link.proofs.RowRules.{RowFacts, facts-of, decision-kept, place-below, from-make, set-each, RowKept, Outcome, after-shares, after-five, after-id, after-row-fits, blocks-say, say-blocks, blocks-kept, blocks-same, free-held, held-none}
 
 -- after a decision on a row, the sum is still within the pool
 pub shares-after : (rs : List Row) (i major : ℕ) (h : Header) (hash : ℕ) (act : Act) → i < length rs → sharesIn rs ≤ 256
@@ -42,7 +37,7 @@ shares-after rs i major h hash act l w o =
     let r : Row = getD rs i noRow in
     let others : ℕ = sharesIn rs - shareOf r in
     let after : Row = rowAfter r h hash act in
-    let m : shareOf r ≤ sharesIn rs = shares-most rs i l in
+    let m : shareOf r ≤ sharesIn rs = share-below rs i l in
     let e : sharesIn (set rs i after) + shareOf r ≡ sharesIn rs + shareOf after = shares-set rs i after l in
     let k : others + shareOf after ≤ 256 = after-shares major others r h hash act o (omega arith) in
     omega arith
@@ -87,7 +82,7 @@ pub distinct-set : (rs : List Row) (i : ℕ) (a : Row) → Same (getD rs i noRow
 unfolding distinctIds
 distinct-set [] i a s e = e
 distinct-set (b ∷ rs) zero a s e =
-    let p = both (eqb (b .id .0) 0 || eqb (indexOf (b .id .0) rs) (length rs)) (distinctIds rs) e in
+    let p = and-both (eqb (b .id .0) 0 || eqb (indexOf (b .id .0) rs) (length rs)) (distinctIds rs) e in
     and-yes (eqb (a .id .0) 0 || eqb (indexOf (a .id .0) rs) (length rs)) (distinctIds rs)
     (elim-or (eqb (a .id .0) 0) (eqb (indexOf (a .id .0) rs) (length rs)) (λ t.
     let n : a .id .0 ≡ 0 → ⊥ = eqb-false (a .id .0) 0 t in
@@ -96,7 +91,7 @@ distinct-set (b ∷ rs) zero a s e =
     (or-elim (eqb (b .id .0) 0) (eqb (indexOf (b .id .0) rs) (length rs)) (p .0) (ne-eqb (b .id .0) 0 (λ z. n (q ∙ z))))))
     (p .1)
 distinct-set (b ∷ rs) (suc i) a s e =
-    let p = both (eqb (b .id .0) 0 || eqb (indexOf (b .id .0) rs) (length rs)) (distinctIds rs) e in
+    let p = and-both (eqb (b .id .0) 0 || eqb (indexOf (b .id .0) rs) (length rs)) (distinctIds rs) e in
     let l : length (set rs i a) ≡ length rs = length-set rs i a in
     and-yes (eqb (b .id .0) 0 || eqb (indexOf (b .id .0) (set rs i a)) (length (set rs i a))) (distinctIds (set rs i a))
     (elim-or (eqb (b .id .0) 0) (eqb (indexOf (b .id .0) (set rs i a)) (length (set rs i a))) (λ t.
@@ -145,10 +140,6 @@ owners-join first (suc a) b map =
     let y : first + suc a ≡ suc first + a = omega arith in
     rw (z, y) (omega (arith, owners-join (suc first) a b map))
 
-owner-next : (i place : ℕ) → ownerOf i (suc place) ≡ suc (ownerOf i place)
-unfolding ownerOf
-owner-next i place = omega arith
-
 -- a row's owners have what its messages hold
 row-owned : (owners : List ℕ) (i n : ℕ) (ms : List Reassembly)
     → ((k : ℕ) → k < length ms → heldBy (ownerOf i (n + k)) owners ≡ heldFor (getD ms k noReassembly)) → heldByAll (ownerOf i n) (length ms) owners ≡ heldIn ms
@@ -169,7 +160,7 @@ row-next n = omega arith
 blocks-of-row : (major : ℕ) (owners : List ℕ) (n : ℕ) (r : Row) → length (r .messages) ≡ 5 → rowFits major owners n r ≡ true → heldByAll (ownerOf n 0) 5 owners ≡ heldOf r
 unfolding rowFits
 blocks-of-row major owners n r five e =
-    let p = both (blocksFit owners n r) _ e in
+    let p = and-both (blocksFit owners n r) _ e in
     subst (λ (x : ℕ). heldByAll (ownerOf n 0) x owners ≡ heldOf r) five
     (row-owned owners n 0 (r .messages) (λ k h. let z : 0 + k ≡ k = omega arith in rw z (blocks-say owners n r (p .0) k h)))
 
@@ -183,7 +174,7 @@ pub rows-owned : (major : ℕ) (owners : List ℕ) (n : ℕ) (rs : List Row) →
 unfolding heldsIn
 rows-owned major owners n [] five e = none-owned (ownerOf n 0) owners
 rows-owned major owners n (r ∷ rs) five e =
-    let p = both (rowFits major owners n r) (allFrom (suc n) (rowFits major owners) rs) e in
+    let p = and-both (rowFits major owners n r) (allFrom (suc n) (rowFits major owners) rs) e in
     let one : heldByAll (ownerOf n 0) 5 owners ≡ heldOf r = blocks-of-row major owners n r (five .0) (p .0) in
     let more : heldByAll (ownerOf (suc n) 0) (5 * length rs) owners ≡ heldsIn rs = rows-owned major owners (suc n) rs (five .1) (p .1) in
     let next : heldByAll (ownerOf n 0 + 5) (5 * length rs) owners ≡ heldsIn rs = rw (row-next n) at more in
@@ -208,14 +199,10 @@ pub claim-free : (major : ℕ) (owners : List ℕ) (rs : List Row) (i need : ℕ
 claim-free major owners rs i need eight five h e all w =
     let a : heldByAll 1 40 owners ≡ heldsIn rs = forty major owners rs eight five e in
     let b = helds-less rs i h in
-    let c = shares-most rs i h in
+    let c = share-below rs i h in
     omega arith
 
 -- ---- the map after a decision
-
-owner-some : (i place : ℕ) → ownerOf i place ≡ 0 → ⊥
-unfolding ownerOf
-owner-some i place z = omega arith
 
 owner-apart : (i k p q : ℕ) → p < 5 → q < 5 → ((k ≡ i) × (q ≡ p) → ⊥) → ownerOf k q ≡ ownerOf i p → ⊥
 unfolding ownerOf
@@ -308,11 +295,6 @@ moved-close major i r owners five fit =
 
 -- ---- the state rules after a decision
 
-pub five-set : (rs : List Row) (i : ℕ) (a : Row) → FiveEach rs → length (a .messages) ≡ 5 → FiveEach (set rs i a)
-five-set [] i a f e = f
-five-set (r ∷ rs) zero a f e = (e, f .1)
-five-set (r ∷ rs) (suc i) a f e = (f .0, five-set rs i a (f .1) e)
-
 pub helds-set : (rs : List Row) (i : ℕ) (r : Row) → i < length rs → heldsIn (set rs i r) + heldOf (getD rs i noRow) ≡ heldsIn rs + heldOf r
 unfolding heldsIn
 helds-set [] i r h = absurd (omega arith)
@@ -324,7 +306,7 @@ row-elsewhere : (major : ℕ) (owners owners′ : List ℕ) (k : ℕ) (r : Row) 
     → ((q : ℕ) → q < 5 → heldBy (ownerOf k q) owners′ ≡ heldBy (ownerOf k q) owners) → rowFits major owners k r ≡ true → rowFits major owners′ k r ≡ true
 unfolding rowFits
 row-elsewhere major owners owners′ k r five f e =
-    let p = both (blocksFit owners k r) _ e in
+    let p = and-both (blocksFit owners k r) _ e in
     and-yes (blocksFit owners′ k r) _ (say-blocks owners′ k r (λ q h. f q (omega arith) ∙ blocks-say owners k r (p .0) q h)) (p .1)
 
 -- the state rules hold after a decision on an open row, if the map moved as the row did
@@ -340,9 +322,9 @@ rules-after l i h hash act owners′ eight five b n e o m =
     let a : Row = rowAfter r h hash act in
     let major : ℕ = l .version .major in
     let others : ℕ = sharesIn rs - shareOf r in
-    let p₁ = both (distinctIds rs) _ e in
-    let p₂ = both (allFrom 0 (rowFits major (l .owners)) rs) _ (p₁ .1) in
-    let p₃ = both (leb (sharesIn rs) 256) (eqb (heldByAll 1 40 (l .owners) + freeIn (l .owners)) 256) (p₂ .1) in
+    let p₁ = and-both (distinctIds rs) _ e in
+    let p₂ = and-both (allFrom 0 (rowFits major (l .owners)) rs) _ (p₁ .1) in
+    let p₃ = and-both (leb (sharesIn rs) 256) (eqb (heldByAll 1 40 (l .owners) + freeIn (l .owners)) 256) (p₂ .1) in
     let total : heldByAll 1 40 (l .owners) + freeIn (l .owners) ≡ 256 = eqb-true (heldByAll 1 40 (l .owners) + freeIn (l .owners)) 256 (p₃ .1) in
     let rows′ : allFrom 0 (rowFits major owners′) (set rs i a) ≡ true =
     rows-set major (l .owners) owners′ rs i a b (after-row-fits major others r h hash act owners′ i n o (m .mine))
@@ -378,30 +360,30 @@ module _ (l : Link) (i : ℕ) (p out : List ℕ) (h : Header) (consumed : ℕ) (
   row-rule : rowFits (l .version .major) (l .owners) i (getD (l .rows) i noRow) ≡ true
   unfolding rulesHold
   row-rule =
-      let p₁ = both (distinctIds (l .rows)) _ e in
-      let p₂ = both (allFrom 0 (rowFits (l .version .major) (l .owners)) (l .rows)) _ (p₁ .1) in
+      let p₁ = and-both (distinctIds (l .rows)) _ e in
+      let p₂ = and-both (allFrom 0 (rowFits (l .version .major) (l .owners)) (l .rows)) _ (p₁ .1) in
       row-fits-at (l .version .major) (l .owners) (l .rows) i (p₂ .0) b
 
   row-blocks : blocksFit (l .owners) i (getD (l .rows) i noRow) ≡ true
   unfolding rowFits
-  row-blocks = both (blocksFit (l .owners) i (getD (l .rows) i noRow)) _ row-rule .0
+  row-blocks = and-both (blocksFit (l .owners) i (getD (l .rows) i noRow)) _ row-rule .0
 
   shares-fit : sharesIn (l .rows) - shareOf (getD (l .rows) i noRow) + shareOf (getD (l .rows) i noRow) ≤ 256
   unfolding rulesHold
   shares-fit =
-      let p₁ = both (distinctIds (l .rows)) _ e in
-      let p₂ = both (allFrom 0 (rowFits (l .version .major) (l .owners)) (l .rows)) _ (p₁ .1) in
-      let p₃ = both (leb (sharesIn (l .rows)) 256) (eqb (heldByAll 1 40 (l .owners) + freeIn (l .owners)) 256) (p₂ .1) in
+      let p₁ = and-both (distinctIds (l .rows)) _ e in
+      let p₂ = and-both (allFrom 0 (rowFits (l .version .major) (l .owners)) (l .rows)) _ (p₁ .1) in
+      let p₃ = and-both (leb (sharesIn (l .rows)) 256) (eqb (heldByAll 1 40 (l .owners) + freeIn (l .owners)) 256) (p₂ .1) in
       let w : sharesIn (l .rows) ≤ 256 = leb-true (sharesIn (l .rows)) 256 (p₃ .0) in
-      omega (arith, shares-most (l .rows) i b)
+      omega (arith, share-below (l .rows) i b)
 
   need-free : (need : ℕ) (after : Row)
       → RowKept (l .version .major) (sharesIn (l .rows) - shareOf (getD (l .rows) i noRow)) (placeOf (h .service .0)) (getD (l .rows) i noRow) after 0 need → need ≤ freeIn (l .owners)
   unfolding rulesHold
   need-free need after k =
-      let p₁ = both (distinctIds (l .rows)) _ e in
-      let p₂ = both (allFrom 0 (rowFits (l .version .major) (l .owners)) (l .rows)) _ (p₁ .1) in
-      let p₃ = both (leb (sharesIn (l .rows)) 256) (eqb (heldByAll 1 40 (l .owners) + freeIn (l .owners)) 256) (p₂ .1) in
+      let p₁ = and-both (distinctIds (l .rows)) _ e in
+      let p₂ = and-both (allFrom 0 (rowFits (l .version .major) (l .owners)) (l .rows)) _ (p₁ .1) in
+      let p₃ = and-both (leb (sharesIn (l .rows)) 256) (eqb (heldByAll 1 40 (l .owners) + freeIn (l .owners)) 256) (p₂ .1) in
       let total : heldByAll 1 40 (l .owners) + freeIn (l .owners) ≡ 256 = eqb-true (heldByAll 1 40 (l .owners) + freeIn (l .owners)) 256 (p₃ .1) in
       let w = k .shares shares-fit in
       let q = k .held in
@@ -450,11 +432,11 @@ module _ (l : Link) (i : ℕ) (p out : List ℕ) (h : Header) (consumed : ℕ) (
       let r : Row = getD (l .rows) i noRow in
       let major : ℕ = l .version .major in
       let q : pick (eqb (r .id .0) 0) (freeFits r) (roomFits r && (versionAllowed major (r .version) && (unsettledFits r && allFrom 0 (messageFits r) (r .messages)))) ≡ true
-      = both (blocksFit (l .owners) i r) _ row-rule .1 in
+      = and-both (blocksFit (l .owners) i r) _ row-rule .1 in
       let q₀ : roomFits r && (versionAllowed major (r .version) && (unsettledFits r && allFrom 0 (messageFits r) (r .messages))) ≡ true = rw (ne-eqb (r .id .0) 0 n) at q in
-      let q₁ = both (roomFits r) _ q₀ in
-      let q₂ = both (versionAllowed major (r .version)) _ (q₁ .1) in
-      let q₃ = both (unsettledFits r) (allFrom 0 (messageFits r) (r .messages)) (q₂ .1) in
+      let q₁ = and-both (roomFits r) _ q₀ in
+      let q₂ = and-both (versionAllowed major (r .version)) _ (q₁ .1) in
+      let q₃ = and-both (unsettledFits r) (allFrom 0 (messageFits r) (r .messages)) (q₂ .1) in
       let f : RowFacts major r = facts-of major r (five-at (l .rows) i five b) (record { room = q₁ .0; version = q₂ .0; unsettled = q₃ .0; messages = q₃ .1 }) in
       decision-kept l i h payload room (g .hash) f s
 

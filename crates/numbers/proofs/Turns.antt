@@ -1,9 +1,9 @@
 -- What one turn of a reading or a writing loop does, over the width, and what a read of missing bytes counts.
 -- Assumes nothing.
 use Prim.Native.Nat.{ℕ, zero, suc, _+_, _-_, _*_, _/_, _%_, _^_, _<_, _≤_, min}
-use mathlib.Core.Path.{_≡_, refl, ap, _∙_, sym}
+use mathlib.Core.Path.{_≡_, ap, _∙_, sym}
 use mathlib.Core.List.{List, [], _∷_, _++_, reverse-cons, reverse-append, append-assoc}
-use mathlib.Core.Bool.{Bool, true, false, _&&_}
+use mathlib.Core.Bool.{true}
 use lib.Dec.{leb}
 use borrow.Author.Tests.{leb-true}
 use native.Mathlib.Omega.{arith}
@@ -14,6 +14,7 @@ use lib.Seq.{drop-cons, take-suc, take-take, take-all, getD-drop, getD-take, get
 use Rattle.numbers.specs.Bytes.{part, fitsIn}
 use Rattle.numbers.specs.Numbers.{valueLe, bytesLe, valueBe, bytesBe}
 use Rattle.numbers.proofs.Laws.{length-le, length-be}
+use Rattle.numbers.proofs.Choices.{and-both}
 
 -- bytes past the end are not counted
 take-there : (w : ℕ) (l : List ℕ) → take (min w (length l)) l ≡ take w l
@@ -137,7 +138,3 @@ unfolding fitsIn
 fits-room n at w e =
     let p = and-both (leb at n) (leb w (n - at)) e in
     omega (arith, leb-true at n (p .0), leb-true w (n - at) (p .1))
-  where
-    and-both : (b c : Bool) → b && c ≡ true → (b ≡ true) × (c ≡ true)
-    and-both true c e = (refl, e)
-    and-both false c e = (e, cc)

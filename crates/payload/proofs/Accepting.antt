@@ -10,11 +10,11 @@ use lib.ListN.{length, getD}
 use borrow.Author.Tests.{eq-eqb, ne-eqb, lt-ltb, leb-true}
 use Rattle.numbers.specs.Bytes.{part}
 use Rattle.numbers.specs.Numbers.{valueLe}
+use Rattle.numbers.proofs.Choices.{and-both}
 use Rattle.payload.specs.Tags.{noTags}
 use Rattle.payload.specs.Walk.{Nested, elementOf, elements, documentFits, documentOf, answer, lengthFits, payloadOf}
 use Rattle.payload.specs.declared.Tags.{Tags}
 use Rattle.payload.specs.declared.Walk.the-variants.{Past}
-use Rattle.payload.proofs.Within.{and-both}
 
 -- a payload of the right length says what its document says
 pub payload-walks : (s : List ℕ) → lengthFits s ≡ true → payloadOf s ≡ answer (documentOf 8 true s 0 (length s) noTags)

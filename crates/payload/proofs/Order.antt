@@ -11,6 +11,7 @@ use lib.Dec.{ltb, eqb}
 use borrow.Author.Tests.{lt-ltb, le-ltb, ne-eqb, le-leb, lt-leb}
 use Rattle.numbers.specs.Bytes.{part}
 use Rattle.numbers.specs.Numbers.{valueLe}
+use Rattle.numbers.proofs.Choices.{either, unless-elim}
 use Rattle.payload.specs.Tags.{clashes, noTags}
 use Rattle.payload.specs.Walk.{readType, nests, plainOf, tagAt, keyStop, headOf, pastPlain, pastNested, Nested, valueOf, elementOf, andThen, elements, documentFits, documentOf, answer, lengthFits, payloadOf}
 use Rattle.payload.specs.declared.Tags.{Tags}
@@ -23,7 +24,7 @@ use Rattle.payload.specs.declared.Walk.{Walk}
 use Rattle.payload.specs.declared.Walk.the-variants.{Past, Fault}
 use Rattle.payload.specs.declared.Payload.{Payload}
 use Rattle.payload.specs.declared.Payload.the-variants.{Accepted, Refused}
-use Rattle.payload.proofs.Within.{either, unless-elim, Inside, WalkIn, element-in}
+use Rattle.payload.proofs.Within.{Inside, WalkIn, element-in}
 
 -- an element: a type that is not read is 31, whatever follows it
 module _ (nested : Nested) (top : Bool) (s : List ℕ) (at end : ℕ) (t : Tags) where

@@ -7,9 +7,9 @@ use mathlib.Core.Bool.{Bool, true, false, not}
 use native.Mathlib.Omega.{arith}
 use lib.Dec.{eqb}
 use borrow.Author.Tests.{eq-eqb, ne-eqb, eqb-true}
+use Rattle.numbers.proofs.Choices.{and-both}
 use Rattle.payload.specs.Tags.{sameBytes, typed, found, clashes}
 use Rattle.payload.specs.Walk.{readType}
-use Rattle.payload.proofs.Within.{and-both}
 use Rattle.payload.specs.declared.Tags.{Tags}
 use Rattle.payload.specs.declared.Tag.{Tag}
 

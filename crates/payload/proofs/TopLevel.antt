@@ -13,6 +13,7 @@ use borrow.Author.Tests.{leb-true, eqb-true}
 use Rattle.numbers.specs.Bytes.{AreBytes, part}
 use Rattle.numbers.specs.Numbers.{valueLe}
 use Rattle.numbers.proofs.Laws.{bytes-drop}
+use Rattle.numbers.proofs.Choices.{and-both, either, unless-elim}
 use Rattle.payload.specs.Tags.{typed, found, clashes, noTags, withTag}
 use Rattle.payload.specs.Walk.{readType, nests, stringFits, stringOf, plainOf, tagAt, keyStop, headOf, pastPlain, pastNested, Nested, valueOf, elementOf, andThen, elements, documentFits, documentOf, answer, lengthFits, payloadOf}
 use Rattle.payload.specs.declared.Tags.{Tags}
@@ -26,7 +27,6 @@ use Rattle.payload.specs.declared.Walk.{Walk}
 use Rattle.payload.specs.declared.Walk.the-variants.{Past, Fault}
 use Rattle.payload.specs.declared.Payload.{Payload}
 use Rattle.payload.specs.declared.Payload.the-variants.{Accepted, Refused}
-use Rattle.payload.proofs.Within.{either, unless-elim, and-both}
 
 -- a walk that leaves the tags as they were
 abbrev pub Keeps : Tags → Walk → Type 0

@@ -10,10 +10,11 @@ use lib.Dec.{leb, ltb, eqb}
 use lib.ListN.{length, getD}
 use lib.Seq.{take-at, drop-append-add}
 use borrow.Author.Tests.{le-leb, leb-true, eqb-true, eqb-false, ne-eqb, not-true}
+use Rattle.numbers.proofs.Choices.{split}
 use Rattle.bytes.specs.Bytes.{indexOf, indexAfter}
 use Rattle.lines.specs.Text.{every}
 use Rattle.lines.specs.Decimal.{isDecimal, valueFrom, valueOf, numberOf, decimalOf}
-use Rattle.lines.proofs.Turns.{split, both}
+use Rattle.lines.proofs.Turns.{both}
 use Rattle.lines.proofs.Characters.{says}
 use Rattle.lines.proofs.Digits.{decimal-one, decimal-step, width-one, value-most}
 use Rattle.lines.proofs.Laws.{decimal-digits, decimal-first, number-decimal}

@@ -7,7 +7,7 @@ use mathlib.Core.Logic.{_⊎_, inl, inr}
 use native.Mathlib.Omega.{arith}
 use lib.Dec.{ltb, eqb}
 use borrow.Author.Tests.{lt-ltb, le-ltb, ltb-true, ltb-false, eq-eqb, ne-eqb, eqb-true, eqb-false, le-leb, leb-true, leb-false}
-use Rattle.lines.proofs.Turns.{split}
+use Rattle.numbers.proofs.Choices.{split}
 use Rattle.payload.specs.Version.{version, belowOr, atMost, lesserOf}
 use Rattle.payload.specs.declared.version.Version.{Version}
 

@@ -10,12 +10,12 @@ use lib.Dec.{eqb, leb, ltb}
 use borrow.Author.Tests.{eq-eqb, ne-eqb, le-leb, le-ltb, ltb-true, ltb-false, leb-true, eqb-false, not-true}
 use lib.ListN.{length, take, drop, length-append, length-drop, drop-of-length-le}
 use lib.Seq.{length-take-le, take-all, take-length}
+use Rattle.numbers.proofs.Choices.{and-both, split, unless-elim}
 use Rattle.bytes.specs.Bytes.{indexOf, slice}
 use Rattle.lines.specs.Text.{encoded, writtenOf}
 use Rattle.lines.specs.Decimal.{decimalOf}
 use Rattle.lines.specs.declared.Encoded.{Encoded}
 use Rattle.lines.specs.declared.Encoded.the-variants.{Chars}
-use Rattle.lines.proofs.Turns.{split}
 use Rattle.lines.proofs.Digits.{width-one, width-step}
 use Rattle.numbers.specs.Bytes.{part, laid}
 use Rattle.payload.specs.Append.{Appended}
@@ -24,7 +24,6 @@ use Rattle.payload.specs.declared.version.Version.{Version}
 use Rattle.payload.specs.declared.version.VersionText.{VersionText}
 use Rattle.payload.specs.declared.version.VersionText.the-variants.{Good, Bad}
 use Rattle.payload.proofs.Appends.{more, renamed, filled}
-use Rattle.payload.proofs.Within.{unless-elim, and-both}
 
 -- the place of the first dot, found in the whole text
 module _ (text : List ℕ) (r : ℕ) (e : r ≡ 0 + indexOf 46 (slice 0 (length text) text)) where

@@ -4,13 +4,14 @@
 use Prim.Native.Nat.{ℕ, zero, suc, _+_, _-_, _≤_}
 use mathlib.Core.Path.{_≡_, refl, ap}
 use mathlib.Core.List.{List}
-use mathlib.Core.Bool.{Bool, true, false, _&&_}
+use mathlib.Core.Bool.{Bool, false, _&&_}
 use native.Mathlib.Omega.{arith}
 use lib.ListN.{getD}
 use lib.Dec.{leb, ltb, eqb}
 use borrow.Author.Tests.{ltb-true, leb-true, le-ltb}
 use Rattle.numbers.specs.Bytes.{part, pick, unless}
 use Rattle.numbers.specs.Numbers.{valueLe}
+use Rattle.numbers.proofs.Choices.{and-both, either, unless-elim}
 use Rattle.payload.specs.Tags.{clashes}
 use Rattle.payload.specs.Walk.{readType, nests, fixedOf, booleanOf, stringFits, stringOf, plainOf, tagAt, keyStop, headOf, pastPlain, pastNested, Nested, valueOf, elementOf, andThen, elements, documentFits, documentOf}
 use Rattle.payload.specs.declared.Tags.{Tags}
@@ -21,19 +22,6 @@ use Rattle.payload.specs.declared.Head.{Head}
 use Rattle.payload.specs.declared.Head.the-variants.{Value, Bad}
 use Rattle.payload.specs.declared.Walk.{Walk}
 use Rattle.payload.specs.declared.Walk.the-variants.{Past, Fault}
-
--- a property of both ways, each with its test, holds of the way taken
-pub either : {A : Type 0} (P : A → Type 0) (b : Bool) (x y : A) → (b ≡ true → P x) → (b ≡ false → P y) → P (pick b x y)
-either P true x y f g = f refl
-either P false x y f g = g refl
-
-pub unless-elim : {A : Type 0} (P : A → Type 0) (b : Bool) (x y : A) → (b ≡ false → P x) → (b ≡ true → P y) → P (unless b x y)
-unless-elim P true x y f g = g refl
-unless-elim P false x y f g = f refl
-
-pub and-both : (b c : Bool) → b && c ≡ true → (b ≡ true) × (c ≡ true)
-and-both true c e = (refl, e)
-and-both false c e = (e, cc)
 
 -- what is accepted ends from lo up to hi
 abbrev pub SkipIn : ℕ → ℕ → Skip → Type 0

@@ -9,8 +9,10 @@ use lib.Dec.{eqb, leb}
 use lib.ListN.{length}
 use borrow.Author.Tests.{eqb-true, eq-eqb, leb-true, le-leb}
 use Rattle.numbers.specs.Bytes.{pick}
+use Rattle.numbers.proofs.Choices.{and-yes, and-both, same-or-not}
+use Rattle.link.proofs.Table.{owner-next}
 use Rattle.blocks.specs.Map.{heldBy, heldByAll, freeIn}
-use Rattle.blocks.proofs.Counts.{held-mine, held-not}
+use Rattle.blocks.proofs.Counts.{held-mine, held-not, all-none}
 use Rattle.session.specs.declared.Reassembly.{Reassembly}
 use Rattle.session.specs.declared.Row.{Row}
 use Rattle.session.specs.Decide.{needOf, heldBy as heldFor, heldIn, heldOf, shareOf}
@@ -18,8 +20,6 @@ use Rattle.link.specs.Pages.{FiveEach}
 use Rattle.link.specs.declared.Link.{Link}
 use Rattle.link.specs.declared.Grant.{Grant}
 use Rattle.link.specs.State.{allFrom, ownerOf, sharesIn, freeFits, blocksFit, rowFits, rulesHold, settingsFit, grantFits, guardOf}
-use Rattle.link.proofs.Table.{either}
-use Rattle.link.proofs.RowRules.{both, and-yes}
 use Rattle.link.proofs.TableRules.{heldsIn, forty}
 use Rattle.rules.specs.Parts.{noneLive, sessionFits, distinctIn, holdsNeed, openFit, rowSound, ofSession, heldSum, shareSum, Summed}
 use Rattle.rules.proofs.Turns.{distinct-ids}
@@ -36,17 +36,12 @@ all-once : (first n o : ℕ) (map : List ℕ) → heldByAll first n (o ∷ map) 
 unfolding heldByAll
 all-once first zero o map = omega arith
 all-once first (suc n) o map =
-    either o first
+    same-or-not o first
     (λ e. omega (arith, held-mine first o map e, all-above (suc first) n o map (omega arith)))
     (λ d. omega (arith, held-not first o map d, all-once (suc first) n o map))
 
-all-empty : (first n : ℕ) → heldByAll first n [] ≡ 0
-unfolding heldByAll heldBy
-all-empty first zero = refl
-all-empty first (suc n) = omega (arith, all-empty (suc first) n)
-
 all-most : (first n : ℕ) (map : List ℕ) → heldByAll first n map ≤ length map
-all-most first n [] = omega (arith, all-empty first n)
+all-most first n [] = omega (arith, all-none first n)
 all-most first n (o ∷ map) = omega (arith, all-once first n o map, all-most first n map)
 
 with-free : (map : List ℕ) → heldByAll 1 40 map + freeIn map ≤ length map
@@ -83,19 +78,15 @@ idle-held : (ms : List Reassembly) → noneLive ms ≡ true → heldIn ms ≡ 0
 unfolding heldIn heldFor
 idle-held [] e = refl
 idle-held (m ∷ ms) e =
-    let p = both (not (m .live)) (noneLive ms) e in
+    let p = and-both (not (m .live)) (noneLive ms) e in
     omega (arith, idle-of (m .live) 0 (needOf (m .total)) (p .0) .1, idle-held ms (p .1))
 
 -- a free row takes nothing
 free-none : (r : Row) → freeFits r ≡ true → (noneLive (r .messages) ≡ true) × (r .guarantee ≡ 0)
 unfolding freeFits
 free-none r e =
-    let p = both (eqb (r .guarantee) 0) (eqb (r .cap) 0 && noneLive (r .messages)) e in
-    (both (eqb (r .cap) 0) (noneLive (r .messages)) (p .1) .1, eqb-true (r .guarantee) 0 (p .0))
-
-next-owner : (i n : ℕ) → ownerOf i (suc n) ≡ suc (ownerOf i n)
-unfolding ownerOf
-next-owner i n = omega arith
+    let p = and-both (eqb (r .guarantee) 0) (eqb (r .cap) 0 && noneLive (r .messages)) e in
+    (and-both (eqb (r .cap) 0) (noneLive (r .messages)) (p .1) .1, eqb-true (r .guarantee) 0 (p .0))
 
 next-row : (n : ℕ) → ownerOf (suc n) 0 ≡ suc (suc (suc (suc (suc (ownerOf n 0)))))
 unfolding ownerOf
@@ -118,14 +109,14 @@ module _ (map : List ℕ) where
   unfolding holdsNeed
   idle-open i n [] e = refl
   idle-open i n (m ∷ ms) e =
-      let p = both (not (m .live)) (noneLive ms) e in
+      let p = and-both (not (m .live)) (noneLive ms) e in
       and-yes _ _ (idle-of (m .live) (heldBy (ownerOf i n) map) (needOf (m .total)) (p .0) .0) (idle-open i (suc n) ms (p .1))
 
   exact-open : (i n : ℕ) (ms : List Reassembly) → Exact i n ms ≡ true → Open i n ms ≡ true
   unfolding holdsNeed
   exact-open i n [] e = refl
   exact-open i n (m ∷ ms) e =
-      let p = both (eqb (heldBy (ownerOf i n) map) (pick (m .live) (needOf (m .total)) 0)) (Exact i (suc n) ms) e in
+      let p = and-both (eqb (heldBy (ownerOf i n) map) (pick (m .live) (needOf (m .total)) 0)) (Exact i (suc n) ms) e in
       and-yes _ _ (open-of (m .live) (heldBy (ownerOf i n) map) (needOf (m .total)) (p .0)) (exact-open i (suc n) ms (p .1))
 
   -- their owners have at least what the open ones need
@@ -133,9 +124,9 @@ module _ (map : List ℕ) where
   unfolding heldIn heldFor heldByAll holdsNeed
   less i n [] e = omega arith
   less i n (m ∷ ms) e =
-      let p = both (holdsNeed map (ownerOf i n) m) (Open i (suc n) ms) e in
+      let p = and-both (holdsNeed map (ownerOf i n) m) (Open i (suc n) ms) e in
       let here : pick (m .live) (needOf (m .total)) 0 ≤ heldBy (ownerOf i n) map = most-of (m .live) (heldBy (ownerOf i n) map) (needOf (m .total)) (p .0) in
-      let rest : heldIn ms ≤ heldByAll (suc (ownerOf i n)) (length ms) map = rw (next-owner i n) at (less i (suc n) ms (p .1)) in
+      let rest : heldIn ms ≤ heldByAll (suc (ownerOf i n)) (length ms) map = rw (owner-next i n) at (less i (suc n) ms (p .1)) in
       omega arith
 
   -- and if they have no more, each has exactly that
@@ -143,10 +134,10 @@ module _ (map : List ℕ) where
   unfolding heldIn heldFor heldByAll holdsNeed
   exact i n [] e h = refl
   exact i n (m ∷ ms) e h =
-      let p = both (holdsNeed map (ownerOf i n) m) (Open i (suc n) ms) e in
+      let p = and-both (holdsNeed map (ownerOf i n) m) (Open i (suc n) ms) e in
       let here : pick (m .live) (needOf (m .total)) 0 ≤ heldBy (ownerOf i n) map = most-of (m .live) (heldBy (ownerOf i n) map) (needOf (m .total)) (p .0) in
-      let rest : heldIn ms ≤ heldByAll (suc (ownerOf i n)) (length ms) map = rw (next-owner i n) at (less i (suc n) ms (p .1)) in
-      let left : heldByAll (ownerOf i (suc n)) (length ms) map ≤ heldIn ms = rw (next-owner i n) (omega arith) in
+      let rest : heldIn ms ≤ heldByAll (suc (ownerOf i n)) (length ms) map = rw (owner-next i n) at (less i (suc n) ms (p .1)) in
+      let left : heldByAll (ownerOf i (suc n)) (length ms) map ≤ heldIn ms = rw (owner-next i n) (omega arith) in
       and-yes _ _ (exact-of (m .live) (heldBy (ownerOf i n) map) (needOf (m .total)) (p .0) (omega arith)) (exact i (suc n) ms (p .1) left)
 
   module _ (major : ℕ) where
@@ -157,7 +148,7 @@ module _ (map : List ℕ) where
     sound-open n r e =
         by-pick (eqb (r .id .0) 0) (freeFits r) (openFit map n (r .messages) && sessionFits major r) e
         (λ t f. idle-open n 0 (r .messages) (free-none r f .0))
-        (λ t f. both (openFit map n (r .messages)) (sessionFits major r) f .0)
+        (λ t f. and-both (openFit map n (r .messages)) (sessionFits major r) f .0)
 
     sound-sums : (n : ℕ) (r : Row) → rowSound major map n r ≡ true → (ofSession heldOf r ≡ heldOf r) × (ofSession shareOf r ≡ shareOf r)
     unfolding rowSound ofSession
@@ -172,7 +163,7 @@ module _ (map : List ℕ) where
     fits-sound : (n : ℕ) (r : Row) → rowFits major map n r ≡ true → rowSound major map n r ≡ true
     unfolding rowFits blocksFit rowSound
     fits-sound n r e =
-        let p = both (Exact n 0 (r .messages)) (pick (eqb (r .id .0) 0) (freeFits r) (sessionFits major r)) e in
+        let p = and-both (Exact n 0 (r .messages)) (pick (eqb (r .id .0) 0) (freeFits r) (sessionFits major r)) e in
         by-pick (eqb (r .id .0) 0) (freeFits r) (sessionFits major r) (p .1)
         (λ t f. rw t f)
         (λ t f. rw t (and-yes _ _ (exact-open n 0 (r .messages) (p .0)) f))
@@ -183,7 +174,7 @@ module _ (map : List ℕ) where
         let blocks : Exact n 0 (r .messages) ≡ true = exact n 0 (r .messages) (sound-open n r e) (rw five h) in
         by-pick (eqb (r .id .0) 0) (freeFits r) (openFit map n (r .messages) && sessionFits major r) e
         (λ t f. and-yes _ _ blocks (rw t f))
-        (λ t f. and-yes _ _ blocks (rw t (both (openFit map n (r .messages)) (sessionFits major r) f .1)))
+        (λ t f. and-yes _ _ blocks (rw t (and-both (openFit map n (r .messages)) (sessionFits major r) f .1)))
 
     row-less : (n : ℕ) (r : Row) → length (r .messages) ≡ 5 → rowSound major map n r ≡ true → heldOf r ≤ heldByAll (ownerOf n 0) 5 map
     row-less n r five e = rw five at (less n 0 (r .messages) (sound-open n r e))
@@ -199,14 +190,14 @@ module _ (map : List ℕ) where
     all-sound : (n : ℕ) (rs : List Row) → allFrom n (rowFits major map) rs ≡ true → allFrom n (rowSound major map) rs ≡ true
     all-sound n [] e = refl
     all-sound n (r ∷ rs) e =
-        let p = both (rowFits major map n r) (allFrom (suc n) (rowFits major map) rs) e in
+        let p = and-both (rowFits major map n r) (allFrom (suc n) (rowFits major map) rs) e in
         and-yes _ _ (fits-sound n r (p .0)) (all-sound (suc n) rs (p .1))
 
     all-sums : (n : ℕ) (rs : List Row) → allFrom n (rowSound major map) rs ≡ true → (heldSum rs ≡ heldsIn rs) × (shareSum rs ≡ sharesIn rs)
     unfolding heldSum heldsIn shareSum sharesIn
     all-sums n [] e = (refl, refl)
     all-sums n (r ∷ rs) e =
-        let p = both (rowSound major map n r) (allFrom (suc n) (rowSound major map) rs) e in
+        let p = and-both (rowSound major map n r) (allFrom (suc n) (rowSound major map) rs) e in
         let here = sound-sums n r (p .0) in
         let rest = all-sums (suc n) rs (p .1) in
         (rw (here .0, rest .0), rw (here .1, rest .1))
@@ -215,7 +206,7 @@ module _ (map : List ℕ) where
     unfolding heldsIn
     all-less n [] five e = omega arith
     all-less n (r ∷ rs) five e =
-        let p = both (rowSound major map n r) (allFrom (suc n) (rowSound major map) rs) e in
+        let p = and-both (rowSound major map n r) (allFrom (suc n) (rowSound major map) rs) e in
         omega (arith, row-split n (length rs), row-less n r (five .0) (p .0), all-less (suc n) rs (five .1) (p .1))
 
     all-fit : (n : ℕ) (rs : List Row) → FiveEach rs → allFrom n (rowSound major map) rs ≡ true → heldByAll (ownerOf n 0) (5 * length rs) map ≤ heldsIn rs
@@ -223,7 +214,7 @@ module _ (map : List ℕ) where
     unfolding heldsIn
     all-fit n [] five e h = refl
     all-fit n (r ∷ rs) five e h =
-        let p = both (rowSound major map n r) (allFrom (suc n) (rowSound major map) rs) e in
+        let p = and-both (rowSound major map n r) (allFrom (suc n) (rowSound major map) rs) e in
         let s = row-split n (length rs) in
         let here = row-less n r (five .0) (p .0) in
         let rest = all-less (suc n) rs (five .1) (p .1) in
@@ -236,8 +227,8 @@ module _ (map : List ℕ) where
       to-rules : allFrom 0 (rowSound major map) rs && (leb (shareSum rs) 256 && eqb (heldSum rs + freeIn map) 256) ≡ true
           → allFrom 0 (rowFits major map) rs && (leb (sharesIn rs) 256 && eqb (heldByAll 1 40 map + freeIn map) 256) ≡ true
       to-rules e =
-          let p = both (allFrom 0 (rowSound major map) rs) (leb (shareSum rs) 256 && eqb (heldSum rs + freeIn map) 256) e in
-          let q = both (leb (shareSum rs) 256) (eqb (heldSum rs + freeIn map) 256) (p .1) in
+          let p = and-both (allFrom 0 (rowSound major map) rs) (leb (shareSum rs) 256 && eqb (heldSum rs + freeIn map) 256) e in
+          let q = and-both (leb (shareSum rs) 256) (eqb (heldSum rs + freeIn map) 256) (p .1) in
           let s = all-sums 0 rs (p .0) in
           let sum : heldSum rs + freeIn map ≡ 256 = eqb-true (heldSum rs + freeIn map) 256 (q .1) in
           let share : shareSum rs ≤ 256 = leb-true (shareSum rs) 256 (q .0) in
@@ -248,8 +239,8 @@ module _ (map : List ℕ) where
       from-rules : allFrom 0 (rowFits major map) rs && (leb (sharesIn rs) 256 && eqb (heldByAll 1 40 map + freeIn map) 256) ≡ true
           → allFrom 0 (rowSound major map) rs && (leb (shareSum rs) 256 && eqb (heldSum rs + freeIn map) 256) ≡ true
       from-rules e =
-          let p = both (allFrom 0 (rowFits major map) rs) (leb (sharesIn rs) 256 && eqb (heldByAll 1 40 map + freeIn map) 256) e in
-          let q = both (leb (sharesIn rs) 256) (eqb (heldByAll 1 40 map + freeIn map) 256) (p .1) in
+          let p = and-both (allFrom 0 (rowFits major map) rs) (leb (sharesIn rs) 256 && eqb (heldByAll 1 40 map + freeIn map) 256) e in
+          let q = and-both (leb (sharesIn rs) 256) (eqb (heldByAll 1 40 map + freeIn map) 256) (p .1) in
           let fit : allFrom 0 (rowSound major map) rs ≡ true = all-sound 0 rs (p .0) in
           let s = all-sums 0 rs fit in
           let sum : heldByAll 1 40 map + freeIn map ≡ 256 = eqb-true (heldByAll 1 40 map + freeIn map) 256 (q .1) in
@@ -287,9 +278,9 @@ module _ (l : Link) (pool : ℕ) (g : Grant) (fit : Bool) (held shared : ℕ) (i
   pub shares-found : guardOf l pool g ≡ true → shared ≡ sharesIn (l .rows)
   unfolding guardOf
   shares-found e =
-      let inner = both (eqb pool 65536) (settingsFit (l .version) (l .mtu) && (grantFits g && rulesHold l)) e .1 in
-      let rules = both (grantFits g) (rulesHold l) (both (settingsFit (l .version) (l .mtu)) (grantFits g && rulesHold l) inner .1) .1 in
+      let inner = and-both (eqb pool 65536) (settingsFit (l .version) (l .mtu) && (grantFits g && rulesHold l)) e .1 in
+      let rules = and-both (grantFits g) (rulesHold l) (and-both (settingsFit (l .version) (l .mtu)) (grantFits g && rulesHold l) inner .1) .1 in
       let rest : Bool = leb shared 256 && eqb (held + freeIn (l .owners)) 256 in
       let tests : distinctIn ids && (fit && rest) ≡ true = rules-found l fit held shared ids whole s ∙ rules in
-      let sound = both fit rest (both (distinctIn ids) (fit && rest) tests .1) .0 in
+      let sound = and-both fit rest (and-both (distinctIn ids) (fit && rest) tests .1) .0 in
       s .shares ∙ all-sums (l .owners) (l .version .major) 0 (l .rows) (sym (s .fits) ∙ sound) .1

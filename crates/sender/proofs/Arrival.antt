@@ -11,21 +11,17 @@ use lib.Seq.{take-at, drop-at}
 use borrow.Author.Tests.{le-leb, leb-true, eqb-true, eqb-false}
 use Rattle.numbers.specs.Numbers.{bytesBe}
 use Rattle.numbers.proofs.Laws.{length-be, read-written-be}
+use Rattle.numbers.proofs.Choices.{split, either}
 use Rattle.frame.specs.Rules.{faultOf}
 use Rattle.frame.specs.Message.{frameNumber, totalsFit}
 use Rattle.frame.specs.Write.{putOf}
-use Rattle.frame.proofs.Laws.{either, frame-length}
+use Rattle.frame.proofs.Laws.{frame-length}
 use Rattle.frame.proofs.ThereAndBack.{read-back}
 use Rattle.sender.specs.declared.Outgoing.{Outgoing}
 use Rattle.sender.specs.Sender.{fitsOne, countOf, chunkOf, Planned, plan, singleOf, firstOf, nextOf, frameAt, lastPlace, bytesOf, joined, sendOf, Accepted}
 use Rattle.sender.specs.Arrival.{Delivered, InPieces, Arrival}
 use Rattle.sender.proofs.Counts.{chunk-range, totals-range, several-length, number-inner, number-last, whole-chunk, some-chunk, joined-whole}
 use Rattle.sender.proofs.Laws.{single-fault, first-fault, next-fault, totals-length, at-single, at-first, at-next}
-
--- a case by the test, with its equation
-byTest : {X : Type 0} (b : Bool) → (b ≡ true → X) → (b ≡ false → X) → X
-byTest true f g = f refl
-byTest false f g = g refl
 
 or-right : (b c : Bool) → b || c ≡ true → b ≡ false → c ≡ true
 or-right true c e f = cc
@@ -53,9 +49,9 @@ module _ (o : Outgoing) (m : List ℕ) (a : Accepted o m) where
   -- no frame has a fault
   sound : (k : ℕ) → k ≤ lastPlace o m → faultOf (frameAt o m k .header) ≡ 0
   sound k h =
-      byTest (fitsOne o m)
+      split (fitsOne o m)
       (λ e. rw (at-single o k m e) (single-fault o (a .ready) (length m) (fits-length e)))
-      (λ e. byTest (eqb k 0)
+      (λ e. split (eqb k 0)
       (λ z. rw (at-first o k m e (eqb-true k 0 z), totals-length (length m) (countOf o m)) (first-fault o (a .ready)))
       (λ z.
       let n : k ≡ 0 → ⊥ = eqb-false k 0 z in

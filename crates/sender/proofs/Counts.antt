@@ -2,7 +2,7 @@
 -- Assumes nothing.
 use Prim.Native.Nat.{ℕ, zero, suc, _+_, _-_, _*_, _/_, _%_, _≤_, _<_, min}
 use mathlib.Core.Path.{_≡_, refl, ap, _∙_, sym}
-use mathlib.Core.Bool.{Bool, true, false, _&&_}
+use mathlib.Core.Bool.{Bool, true, false}
 use mathlib.Core.List.{List}
 use native.Mathlib.Omega.{arith}
 use native.Mathlib.Nat.{add-div-right, div-add-mod', mod-lt, mul-le-mul-right, suc-mul}
@@ -11,15 +11,11 @@ use lib.ListN.{length, take, drop, length-take, length-drop}
 use lib.Seq.{take-add, take-all}
 use borrow.Author.Tests.{leb-true, leb-false, eqb-false, eq-eqb, ne-eqb}
 use Rattle.numbers.specs.Bytes.{part}
+use Rattle.numbers.proofs.Choices.{and-both, either}
 use Rattle.frame.specs.Rules.{largest}
 use Rattle.frame.specs.Message.{frameNumber, totalsFit}
-use Rattle.frame.proofs.Laws.{either}
 use Rattle.sender.specs.declared.Outgoing.{Outgoing}
 use Rattle.sender.specs.Sender.{chunkFits, fitsOne, countOf, chunkOf, joined}
-
-and-both : (b c : Bool) → b && c ≡ true → (b ≡ true) × (c ≡ true)
-and-both true c e = (refl, e)
-and-both false c e = (e, cc)
 
 -- what 10 leaves
 -- where a chunk starts, and a place at most a chunk behind, are numbers of 64 bits

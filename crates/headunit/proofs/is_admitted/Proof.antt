@@ -4,9 +4,9 @@ use mathlib.Core.Path.{_≡_, ap, _∙_}
 use native.Mathlib.Omega.{arith}
 use lib.Dec.{ltb}
 use borrow.Author.Tests.{ltb-true}
+use Rattle.numbers.proofs.Choices.{and-both}
 use Rattle.link.specs.Call.{admits}
 use Rattle.link.specs.State.{indexOf}
-use Rattle.link.proofs.Shown.{and-both}
 use Rattle.rules.specs.Parts.{indexIn}
 use Rattle.rules.proofs.Ids.{index-ids}
 use borrow.Author.Needs.{needs}
