@@ -4,8 +4,11 @@
 ghost use Prim.Native.Nat.{_+_, _≤_, min};
 ghost use mathlib.Core.Path.{_≡_};
 ghost use lib.ListN.{length};
+ghost use Rattle.benchline.specs.Line.{mostText};
+ghost use Rattle.bench.specs.Said.{IsText};
 use benchline::Bench;
 use benchline::Output;
+use benchline::Turn;
 use libc::STDIN_FILENO;
 use libc::STDOUT_FILENO;
 
@@ -17,7 +20,7 @@ const POOL: usize = 65536;
 // The link's out buffer.
 const OUT: usize = 65536;
 
-// Texts that wait to be written. `benchline::line` wants room for 2 * OUT + 32 characters, so a line is always answered where none waits.
+// Texts that wait to be written: room for the longest one, 2 * OUT + 32 characters, and for more than as many that wait before it.
 const TEXTS: usize = 300000;
 
 // What is carried from one piece of the input to the next, beside the bench itself.
@@ -26,8 +29,6 @@ struct State {
     filled: usize,
     // so many characters of texts wait to be written
     waiting: usize,
-    // the last line's text had room behind them
-    fitted: bool,
     // the input may hold more
     more: bool,
     // every write so far was taken
@@ -77,7 +78,9 @@ fn put(buffer: &mut [u8], at: usize, bytes: &[u8]) -> usize
 }
 
 // Writes the waiting texts. After a write that failed nothing more is written or read.
-fn flush(mut state: State, texts: &[u8]) -> State {
+fn flush(mut state: State, texts: &[u8]) -> State
+    ensures { λ r. ⌜ r .waiting ≡ 0 ⌝ }
+{
     if state.taken {
         state.taken = io::write_all(STDOUT_FILENO, front(texts, state.waiting));
         state.more = state.more & state.taken;
@@ -86,88 +89,62 @@ fn flush(mut state: State, texts: &[u8]) -> State {
     state
 }
 
-// The text of a line goes behind those that wait. Where it might not fit nothing changes, and the line can be given again.
-fn put_text(
-    mut state: State,
-    bench: Bench,
-    line: &[u8],
-    pool: &mut [u8],
-    out: &mut [u8],
-    texts: &mut [u8],
-) -> Left {
-    let at = least(state.waiting, texts.len());
-    let turn = benchline::line(bench, line, pool, out, &mut texts[at..]);
-    let output = turn.output;
-    match output {
-        Output::Text(count) => {
-            state.waiting = past(at, count, texts.len());
-            state.fitted = true;
-        }
-        Output::Full => {
-            state.fitted = false;
-        }
+// Texts wait as long as the longest one still fits behind them; so `benchline::line` never answers Full.
+fn made_room(state: State, out: &[u8], texts: &[u8]) -> State
+    requires { ⌜ mostText (now out) ≤ length (now texts) ⌝ }
+    ensures { λ r. ⌜ mostText (now (out .entry)) + r .waiting ≤ length (now (texts .entry)) ⌝ }
+{
+    let most = 2 * out.len() + 32;
+    if state.waiting <= texts.len() - most {
+        return state;
     }
-    let after = turn.bench;
-    Left {
-        state: state,
-        bench: after,
-    }
+    flush(state, texts)
 }
 
-// Where a line's text might not fit, those that wait are written first.
-fn answer(
-    state: State,
-    bench: Bench,
-    line: &[u8],
-    pool: &mut [u8],
-    out: &mut [u8],
-    texts: &mut [u8],
-) -> Left {
-    let tried = put_text(state, bench, line, pool, out, texts);
-    let now = tried.state;
-    if now.fitted {
-        return tried;
-    }
-    let after = tried.bench;
-    put_text(flush(now, texts), after, line, pool, out, texts)
+// The answer to a line, where the longest text fits: a text.
+fn answer(bench: Bench, line: &[u8], pool: &mut [u8], out: &mut [u8], text: &mut [u8]) -> Turn
+    requires { ⌜ mostText (now out) ≤ length (now text) ⌝ }
+    ensures { λ r. ⌜ IsText (r .output) ⌝ }
+{
+    benchline::line(bench, line, pool, out, text)
 }
 
-// Answers the line that is gathered.
-fn end_line(
-    mut state: State,
+// A line is answered where it stands in the piece. Only one that began in an earlier piece is gathered first.
+fn answer_line(
     bench: Bench,
-    line: &[u8],
-    pool: &mut [u8],
-    out: &mut [u8],
-    texts: &mut [u8],
-) -> Left {
-    let whole = front(line, state.filled);
-    state.filled = 0;
-    answer(state, bench, whole, pool, out, texts)
-}
-
-// A part of a line goes behind what is gathered; where the line ends with it, the line is answered.
-fn take_part(
-    mut state: State,
-    bench: Bench,
+    filled: usize,
     part: &[u8],
-    ends: bool,
     line: &mut [u8],
     pool: &mut [u8],
     out: &mut [u8],
-    texts: &mut [u8],
-) -> Left {
-    state.filled = put(line, state.filled, part);
-    if ends {
-        return end_line(state, bench, line, pool, out, texts);
+    text: &mut [u8],
+) -> Turn
+    requires { ⌜ mostText (now out) ≤ length (now text) ⌝ }
+    ensures { λ r. ⌜ IsText (r .output) ⌝ }
+{
+    if filled == 0 {
+        return answer(bench, part, pool, out, text);
     }
-    Left {
-        state: state,
-        bench: bench,
+    let end = put(line, filled, part);
+    answer(bench, front(line, end), pool, out, text)
+}
+
+// After a line its text waits behind the others, and nothing is gathered. Full would lose the line: the contract rules it out.
+fn answered(mut state: State, output: Output, texts: usize) -> State
+    requires { ⌜ IsText output ⌝ }
+{
+    state.filled = 0;
+    match output {
+        Output::Text(count) => {
+            state.waiting = past(state.waiting, count, texts);
+        }
+        Output::Full => {}
     }
+    state
 }
 
 // Answers the lines that end in a piece of the input. What stands behind the last newline waits in the line buffer.
+// The bench is a variable of its own: from turn to turn it is copied once.
 fn take_piece(
     left: Left,
     piece: &[u8],
@@ -175,17 +152,37 @@ fn take_piece(
     pool: &mut [u8],
     out: &mut [u8],
     texts: &mut [u8],
-) -> Left {
-    let mut now = left;
+) -> Left
+    requires { ⌜ mostText (now out) ≤ length (now texts) ⌝ }
+{
+    let mut state = left.state;
+    let mut bench = left.bench;
     let mut at: usize = 0;
-    while at < piece.len() {
-        let end = bytes::scan::find(piece, at, piece.len(), b'\n');
+    let mut end = lines::line_end(piece, 0);
+    while end < piece.len() {
+        state = made_room(state, out, texts);
+        let start = state.waiting;
         let part = &piece[at..end];
-        let ends = end < piece.len();
-        now = take_part(now.state, now.bench, part, ends, line, pool, out, texts);
+        let turn = answer_line(
+            bench,
+            state.filled,
+            part,
+            line,
+            pool,
+            out,
+            &mut texts[start..],
+        );
+        let output = turn.output;
+        state = answered(state, output, texts.len());
+        bench = turn.bench;
         at = behind(end, piece.len());
+        end = lines::line_end(piece, at);
     }
-    now
+    state.filled = put(line, state.filled, &piece[at..]);
+    Left {
+        state: state,
+        bench: bench,
+    }
 }
 
 // The texts are written before the next read, which may wait: whoever sends a line can wait for its answer.
@@ -196,7 +193,9 @@ fn answer_piece(
     pool: &mut [u8],
     out: &mut [u8],
     texts: &mut [u8],
-) -> Left {
+) -> Left
+    requires { ⌜ mostText (now out) ≤ length (now texts) ⌝ }
+{
     let after = take_piece(left, piece, line, pool, out, texts);
     let bench = after.bench;
     Left {
@@ -213,7 +212,9 @@ fn read_piece(
     pool: &mut [u8],
     out: &mut [u8],
     texts: &mut [u8],
-) -> Left {
+) -> Left
+    requires { ⌜ mostText (now out) ≤ length (now texts) ⌝ }
+{
     let got = libc::read(STDIN_FILENO, piece);
     if got <= 0 {
         let mut state = left.state;
@@ -229,22 +230,29 @@ fn read_piece(
 }
 
 // The last line may lack its newline; an empty one is none.
-fn end_input(left: Left, line: &[u8], pool: &mut [u8], out: &mut [u8], texts: &mut [u8]) -> State {
+fn end_input(left: Left, line: &[u8], pool: &mut [u8], out: &mut [u8], texts: &mut [u8]) -> State
+    requires { ⌜ mostText (now out) ≤ length (now texts) ⌝ }
+{
     let state = left.state;
     if state.filled == 0 {
         return state;
     }
-    let after = end_line(state, left.bench, line, pool, out, texts);
-    after.state
+    let ready = made_room(state, out, texts);
+    let start = ready.waiting;
+    let last = front(line, ready.filled);
+    let turn = answer(left.bench, last, pool, out, &mut texts[start..]);
+    let output = turn.output;
+    answered(ready, output, texts.len())
 }
 
 // A proved loop has to end, and nothing says that the input does. So the turns are counted down, from a number that no run uses up.
-fn serve(piece: &mut [u8], line: &mut [u8], pool: &mut [u8], out: &mut [u8], texts: &mut [u8]) {
+fn serve(piece: &mut [u8], line: &mut [u8], pool: &mut [u8], out: &mut [u8], texts: &mut [u8])
+    requires { ⌜ mostText (now out) ≤ length (now texts) ⌝ }
+{
     let mut now = Left {
         state: State {
             filled: 0,
             waiting: 0,
-            fitted: true,
             more: true,
             taken: true,
         },

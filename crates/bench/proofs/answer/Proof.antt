@@ -1,0 +1,26 @@
+-- `bench::answer` meets its contract: what `benchline::line` gives back is a text where the longest one fits.
+-- Assumes nothing.
+use Rattle.bench.proofs.Answers.{turn-says}
+use borrow.Author.Needs.{needs}
+use Rattle.bench.proofs.answer.Statement.{statement}
+use Rattle.bench.proofs.answer.Tie as tie
+
+line-requires : tie.Need-line-requires
+line-requires c κs = search needs
+
+same-length : tie.Need-same-length
+same-length c = search needs
+
+same-length-2 : tie.Need-same-length-2
+same-length-2 c = search needs
+
+same-length-3 : tie.Need-same-length-3
+same-length-3 c = search needs
+
+returns : tie.Need-returns
+returns c =
+    let a = c .before .before .before .before .before .before .before .before .before .before .before .before .before .before .args in
+    turn-says (a .bench) (a .line .now) (a .pool .now) (a .out .now) (a .text .now) (c .before .before .before .before .before .before .before .before .before .before .before .before .before .before .pre) (c .before .before .before .before .before .before .line .ensures)
+
+pub answer-spec : {M : Type 1} → statement M
+answer-spec = tie.close (tie.spec line-requires same-length same-length-2 same-length-3 returns)
