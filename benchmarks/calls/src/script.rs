@@ -23,7 +23,7 @@ impl Script {
             place,
             self.first.len() * place,
             self.again.len() * place,
-            times,
+            self.again.len() * times,
         ];
         let mut bytes = Vec::new();
         for number in lengths {

@@ -1,9 +1,10 @@
 // Pace: makes the link's calls again and again, so that a benchmark can time them from outside. No part of the product.
 // Standard input has four numbers of 32 bits, most significant byte first: the bytes of a place, the bytes of the beginning, the bytes that are
-// gone over again and again, and how often; then the places, a frame at the front of each. What follows a frame is ignored by the link.
+// gone over again and again, and how many calls are made with these; then the places, a frame at the front of each. What follows a frame is ignored
+// by the link.
 // It writes how many calls were accepted. It assumes nothing of the input: what is missing is left out.
 ghost use mathlib.Core.Path.{_≡_};
-ghost use Prim.Native.Nat.{_+_, min, max};
+ghost use Prim.Native.Nat.{_+_, _≤_, min, max};
 use libc::STDIN_FILENO;
 use libc::STDOUT_FILENO;
 use lines::Encoded;
@@ -55,49 +56,57 @@ fn is_accepted(answer: Answer) -> bool {
     }
 }
 
-fn call(run: Run, input: &[u8], pool: &mut [u8], out: &mut [u8]) -> Run {
-    let grant = Grant {
+// What each call offers.
+fn offer() -> Grant {
+    Grant {
         guarantee: 0,
         cap: 256,
         hash: 39027,
-    };
-    let link = run.link;
-    let called = headunit::call(link, pool, input, out, grant);
-    let answer = called.answer;
-    let after = called.link;
-    let more = is_accepted(answer) as u64;
-    Run {
-        link: after,
-        accepted: std::num::wrapping_add_u64(run.accepted, more),
     }
 }
 
-// Calls the link with each place's front.
-fn go_over(run: Run, places: &[u8], size: usize, pool: &mut [u8], out: &mut [u8]) -> Run {
-    let mut now = run;
-    let mut at: usize = 0;
-    while at < places.len() {
-        now = call(now, &places[at..], pool, out);
-        at = behind(at, size, places.len());
-    }
-    now
+fn counted(accepted: u64, answer: Answer) -> u64 {
+    std::num::wrapping_add_u64(accepted, is_accepted(answer) as u64)
 }
 
-fn repeat(
+// The place behind one, and the first again behind the last.
+fn next(at: usize, size: usize, length: usize) -> usize
+    ensures { λ r. ⌜ r ≤ length ⌝ }
+{
+    let place = behind(at, size, length);
+    if place < length { place } else { 0 }
+}
+
+// So many calls, with the front of one place after the other. The link is a variable of its own: from call to call it is copied once.
+fn go_over(
     run: Run,
-    times: u32,
+    calls: usize,
     places: &[u8],
     size: usize,
     pool: &mut [u8],
     out: &mut [u8],
 ) -> Run {
-    let mut now = run;
-    let mut left = times;
+    let mut link = run.link;
+    let mut accepted = run.accepted;
+    let mut left = calls;
+    let mut at: usize = 0;
     while 0 < left {
-        now = go_over(now, places, size, pool, out);
+        let called = headunit::call(link, pool, &places[at..], out, offer());
+        let answer = called.answer;
+        accepted = counted(accepted, answer);
+        link = called.link;
+        at = next(at, size, places.len());
         left -= 1;
     }
-    now
+    Run { link, accepted }
+}
+
+// How many whole places a length has.
+fn count_places(length: usize, size: usize) -> usize {
+    if size == 0 {
+        return 0;
+    }
+    length / size
 }
 
 fn start() -> Run {
@@ -111,17 +120,18 @@ fn start() -> Run {
     Run { link, accepted: 0 }
 }
 
-// The beginning once, then the rest so often.
+// The beginning once, then as many calls with the rest as asked for.
 fn serve(script: &[u8], pool: &mut [u8], out: &mut [u8]) -> u64 {
     let size = numbers::be4(script, 0) as usize;
     let first = least(numbers::be4(script, 4) as usize, LONGEST);
     let again = least(numbers::be4(script, 8) as usize, LONGEST);
-    let times = numbers::be4(script, 12);
+    let calls = numbers::be4(script, 12) as usize;
     let start_at = least(16, script.len());
     let middle = least(start_at + first, script.len());
     let end = least(middle + again, script.len());
-    let mut run = go_over(start(), &script[start_at..middle], size, pool, out);
-    run = repeat(run, times, &script[middle..end], size, pool, out);
+    let opening = &script[start_at..middle];
+    let mut run = go_over(start(), count_places(first, size), opening, size, pool, out);
+    run = go_over(run, calls, &script[middle..end], size, pool, out);
     run.accepted
 }
 

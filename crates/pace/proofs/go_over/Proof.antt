@@ -1,6 +1,6 @@
--- `pace::go_over` is safe and ends. No buffer changes its length, and each turn passes at least one byte.
+-- `pace::go_over` is safe and ends: no buffer changes its length, and the calls that are left fall.
 -- Assumes nothing.
-use Prim.Native.Nat.{_≤_, _-_}
+use Prim.Native.Nat.{_≤_}
 use mathlib.Core.Path.{_≡_}
 use lib.ListN.{length}
 use borrow.Author.Needs.{needs}
@@ -8,10 +8,10 @@ use Rattle.pace.proofs.go_over.Statement.{statement}
 use Rattle.pace.proofs.go_over.Tie as tie
 
 abbrev Inv-loop : tie.InvT-loop
-Inv-loop places size pool₀ out₀ now₀ at₀ pool out now at = (at ≤ length places) × (length pool ≡ length pool₀) × (length out ≡ length out₀)
+Inv-loop calls places size pool₀ out₀ link₀ accepted₀ left₀ at₀ pool out link accepted left at = (at ≤ length places) × (length pool ≡ length pool₀) × (length out ≡ length out₀)
 
 abbrev μ-loop : tie.MeasureT-loop
-μ-loop places size pool₀ out₀ now₀ at₀ pool out now at = length places - at
+μ-loop calls places size pool₀ out₀ link₀ accepted₀ left₀ at₀ pool out link accepted left at = left
 
 loop-holds : tie.Need-loop-holds Inv-loop μ-loop
 loop-holds c = search needs
@@ -25,11 +25,20 @@ part-call-start c = search needs
 part-call-end : tie.Need-part-call-end Inv-loop μ-loop
 part-call-end c = search needs
 
+offer-requires : tie.Need-offer-requires Inv-loop μ-loop
+offer-requires c κs = search needs
+
 call-requires : tie.Need-call-requires Inv-loop μ-loop
 call-requires c κs = search needs
 
-behind-requires : tie.Need-behind-requires Inv-loop μ-loop
-behind-requires c κs = search needs
+counted-requires : tie.Need-counted-requires Inv-loop μ-loop
+counted-requires c κs = search needs
+
+next-requires : tie.Need-next-requires Inv-loop μ-loop
+next-requires c κs = search needs
+
+sub-left : tie.Need-sub-left Inv-loop μ-loop
+sub-left c = search needs
 
 loop-less : tie.Need-loop-less Inv-loop μ-loop
 loop-less c = search needs
@@ -56,8 +65,11 @@ go-over-spec =
     sub-call
     part-call-start
     part-call-end
+    offer-requires
     call-requires
-    behind-requires
+    counted-requires
+    next-requires
+    sub-left
     loop-less
     loop-again
     same-length
