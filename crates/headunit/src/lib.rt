@@ -35,7 +35,11 @@ use link::Link;
 use payload::StringTag;
 use payload::reply::Parameter;
 use payload::version::Version;
+use replies::BEAT_ACK;
+use replies::END_ACK;
 use replies::From;
+use replies::START_NAK;
+use replies::put_empty;
 use rules::Overview;
 use session::Act;
 use session::Reassembly;
@@ -229,31 +233,15 @@ fn tell(
         Act::Refuse(number) => Answer::Refused(number),
         Act::Drop(number) => Answer::Refused(number),
         Act::Accept => Answer::Accepted(consumed),
-        Act::Beat => Answer::Beat(
-            consumed,
-            replies::put_empty(from, replies::BEAT_ACK, 0, out),
-        ),
+        Act::Beat => Answer::Beat(consumed, put_empty(from, BEAT_ACK, 0, out)),
         Act::Start => {
             let version = case.row.version;
             let size = replies::put_started(from, version, next, case.hash, case.mtu, out);
             Answer::Acked(consumed, size)
         }
-        Act::NoStart => {
-            Answer::Nacked(
-                consumed,
-                replies::put_empty(from, replies::START_NAK, 0, out),
-            )
-        }
-        Act::Stop => Answer::Acked(
-            consumed,
-            replies::put_empty(from, replies::END_ACK, next, out),
-        ),
-        Act::Close => {
-            Answer::Acked(
-                consumed,
-                replies::put_empty(from, replies::END_ACK, next, out),
-            )
-        }
+        Act::NoStart => Answer::Nacked(consumed, put_empty(from, START_NAK, 0, out)),
+        Act::Stop => Answer::Acked(consumed, put_empty(from, END_ACK, next, out)),
+        Act::Close => Answer::Acked(consumed, put_empty(from, END_ACK, next, out)),
         Act::NoEnd(named) => Answer::Nacked(consumed, replies::put_not_ended(from, named, out)),
         Act::Claim(_, _) => Answer::Accepted(consumed),
         Act::Append => {
@@ -393,7 +381,7 @@ fn not_readable(link: Link, consumed: usize, out: &mut [u8]) -> Called
         service: ServiceType(7),
         session: SessionId(0),
     };
-    let size = replies::put_nak(from, replies::START_NAK, Parameter::ProtocolVersion, out);
+    let size = replies::put_nak(from, START_NAK, Parameter::ProtocolVersion, out);
     Called {
         answer: Answer::Nacked(consumed, size),
         link: link,
@@ -409,7 +397,7 @@ fn not_admitted(link: Link, consumed: usize, out: &mut [u8]) -> Called
         service: ServiceType(7),
         session: SessionId(0),
     };
-    let size = replies::put_empty(from, replies::START_NAK, 0, out);
+    let size = put_empty(from, START_NAK, 0, out);
     Called {
         answer: Answer::Nacked(consumed, size),
         link: link,
