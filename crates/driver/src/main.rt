@@ -1,208 +1,132 @@
 // The driver: reads lines from standard input and answers each on standard output, as docs/DRIVER.md says.
-// This file holds the buffers, the gathering of lines and the writing of answers. It assumes nothing of the input: bytes of any kind and any number.
-// words.rt reads a line's words, commands.rt and calls.rt make the calls, text.rt spells the answers.
+// This file holds the buffers and the gathering of lines. It assumes nothing of the input: bytes of any kind and any number.
+// The library `words` reads a line's words; commands.rt and calls.rt make the calls; the library `text` and sessions.rt spell the answers, output.rt writes them.
 mod calls;
 mod commands;
-mod text;
-mod words;
+mod output;
+mod sessions;
 
 use calls::Unit;
 use libc::STDIN_FILENO;
-use libc::STDOUT_FILENO;
+use words::Command;
 
-// No answer is longer: 131,084 bytes take 262,168 digits, and the words beside them, a link's state among them, far less than the rest.
-const LONGEST_ANSWER: usize = 280000;
+// A line of 300,000 bytes, and one byte more to tell a longer one.
+const LINE: usize = 300001;
 
-// What is carried from one piece of the input to the next.
-struct State {
+// A byte takes two digits, so a line says fewer.
+const CONTENT: usize = 150000;
+
+// The bytes of a piece of the input, and of the pool.
+const PIECE: usize = 65536;
+
+// What is at hand of the input.
+struct Input {
+    // so many bytes of the piece were read, and so many of them are taken
+    count: usize,
+    at: usize,
     // so many bytes of the line buffer are filled
     filled: usize,
-    // so many bytes of answers wait to be written
-    waiting: usize,
+    // they are a whole line
+    ended: bool,
     // the input may hold more
     more: bool,
-    // every write so far was taken
-    taken: bool,
-    // the link that `new` made
-    unit: Unit,
 }
 
-// Writes the waiting answers. After a write that failed nothing more is written or read.
-fn flush(mut state: State, answers: &[u8]) -> State {
-    if state.taken {
-        state.taken = io::write_all(STDOUT_FILENO, text::front(answers, state.waiting));
-        state.more = state.more & state.taken;
-    }
-    state.waiting = 0;
-    state
+fn line_buffer() -> [u8; LINE] {
+    [0; LINE]
 }
 
-// Whether a line gets no answer.
-fn is_silent(line: &[u8]) -> bool {
-    if line.len() == 0 {
-        return true;
-    }
-    line[0] == b'#'
+fn content_buffer() -> [u8; CONTENT] {
+    [0; CONTENT]
 }
 
-// The answer to a line goes behind those that wait; where it might not fit, those are written first.
-fn answer(
-    mut state: State,
-    line: &[u8],
-    content: &mut [u8],
-    out: &mut [u8],
-    pool: &mut [u8],
-    answers: &mut [u8],
-) -> State {
-    if answers.len() - text::least(state.waiting, answers.len()) < LONGEST_ANSWER {
-        state = flush(state, answers);
-    }
-    let unit = state.unit;
-    let answered = commands::answer(unit, line, content, out, pool, answers, state.waiting);
-    let after = answered.unit;
-    State {
-        filled: state.filled,
-        waiting: answered.end,
-        more: state.more,
-        taken: state.taken,
-        unit: after,
-    }
-}
-
-// The line buffer has one byte more than the longest line, so a line that fills it is too long: a line that no command reads is answered instead.
-fn end_line(
-    mut state: State,
-    line: &[u8],
-    content: &mut [u8],
-    out: &mut [u8],
-    pool: &mut [u8],
-    answers: &mut [u8],
-) -> State {
-    let whole = text::front(line, state.filled);
-    state.filled = 0;
-    if is_silent(whole) {
-        return state;
-    }
-    if whole.len() == line.len() {
-        return answer(state, b"?", content, out, pool, answers);
-    }
-    answer(state, whole, content, out, pool, answers)
-}
-
-// A part of a line goes behind what is gathered; where the line ends with it, the line is answered.
-fn take_part(
-    mut state: State,
-    part: &[u8],
-    ends: bool,
-    line: &mut [u8],
-    content: &mut [u8],
-    out: &mut [u8],
-    pool: &mut [u8],
-    answers: &mut [u8],
-) -> State {
-    state.filled = text::put(line, state.filled, part);
-    if ends {
-        return end_line(state, line, content, out, pool, answers);
-    }
-    state
-}
-
-// Answers the lines that end in a piece of the input. What stands behind the last newline waits in the line buffer.
-fn take_piece(
-    state: State,
-    piece: &[u8],
-    line: &mut [u8],
-    content: &mut [u8],
-    out: &mut [u8],
-    pool: &mut [u8],
-    answers: &mut [u8],
-) -> State {
-    let mut after = state;
-    let mut at: usize = 0;
-    while at < piece.len() {
-        let end = bytes::scan::find(piece, at, piece.len(), b'\n');
-        let part = &piece[at..end];
-        let ends = end < piece.len();
-        after = take_part(after, part, ends, line, content, out, pool, answers);
-        at = text::past(end, piece.len());
-    }
-    after
-}
-
-// The answers are written before the next read, which may wait: whoever sends a line can wait for its answer.
-fn answer_piece(
-    state: State,
-    piece: &[u8],
-    line: &mut [u8],
-    content: &mut [u8],
-    out: &mut [u8],
-    pool: &mut [u8],
-    answers: &mut [u8],
-) -> State {
-    let after = take_piece(state, piece, line, content, out, pool, answers);
-    flush(after, answers)
-}
-
-// Reads once.
-fn read_piece(
-    mut state: State,
-    piece: &mut [u8],
-    line: &mut [u8],
-    content: &mut [u8],
-    out: &mut [u8],
-    pool: &mut [u8],
-    answers: &mut [u8],
-) -> State {
+// Reads once. The last line may lack its newline: it is whole where the input ends.
+fn read_piece(mut input: Input, piece: &mut [u8]) -> Input {
     let got = libc::read(STDIN_FILENO, piece);
-    if got <= 0 {
-        state.more = false;
-        return state;
-    }
     let count = io::count(got, piece);
-    answer_piece(state, &piece[..count], line, content, out, pool, answers)
+    input.count = count;
+    input.at = 0;
+    input.ended = count == 0;
+    input.more = 0 < count;
+    input
+}
+
+// What the piece still has of a line goes behind what is gathered.
+fn take_part(mut input: Input, piece: &[u8], line: &mut [u8]) -> Input {
+    let at = text::least(input.at, piece.len());
+    let end = bytes::scan::find(piece, at, piece.len(), b'\n');
+    input.filled = text::put(line, input.filled, &piece[at..end]);
+    input.at = text::past(end, piece.len());
+    input.ended = end < piece.len();
+    input
+}
+
+// Behind a whole line the next one begins.
+fn begun(mut input: Input) -> Input {
+    if input.ended {
+        input.filled = 0;
+    }
+    input
+}
+
+// One step on: a part of a line from the piece, or another piece.
+fn step(input: Input, piece: &mut [u8; PIECE], line: &mut [u8; LINE]) -> Input {
+    if input.at < input.count {
+        return take_part(input, text::front(piece, input.count), line);
+    }
+    read_piece(input, piece)
+}
+
+// How much of the line buffer is a line: nothing while it is not whole. Of a line that is too long only the first byte is left, which is no command.
+fn line_length(input: Input) -> usize {
+    if input.ended {
+        if input.filled < LINE {
+            return input.filled;
+        }
+        return 1;
+    }
+    0
+}
+
+// What the line says. Its last word's bytes go to the front of `content`.
+fn command_of(input: Input, line: &[u8; LINE], content: &mut [u8; CONTENT]) -> Command {
+    words::command_of(text::front(line, line_length(input)), content)
+}
+
+// Carries out a command and writes its answer. Its last word's bytes stand at the front of `content`.
+fn obey(mut unit: Unit, command: Command, content: &[u8; CONTENT], pool: &mut [u8; PIECE]) -> Unit {
+    let input = text::front(content, command.count);
+    let kind = command.kind;
+    if kind == words::NEW {
+        return calls::new(command, pool);
+    }
+    if (kind == words::CALL) & unit.open {
+        let link = unit.link;
+        return calls::call(link, command, input, pool);
+    }
+    unit.taken = commands::obey(command, input);
+    unit
 }
 
 // A proved loop has to end, and nothing says that the input does. So the turns are counted down, from a number that no run uses up.
-fn serve(
-    piece: &mut [u8],
-    line: &mut [u8],
-    content: &mut [u8],
-    out: &mut [u8],
-    pool: &mut [u8],
-    answers: &mut [u8],
-) {
-    let mut state = State {
+fn main() {
+    let mut piece = io::large_buffer();
+    let mut line = line_buffer();
+    let mut content = content_buffer();
+    let mut pool = io::large_buffer();
+    let mut input = Input {
+        count: 0,
+        at: 0,
         filled: 0,
-        waiting: 0,
+        ended: false,
         more: true,
-        taken: true,
-        unit: calls::no_unit(),
     };
+    let mut unit = calls::no_unit();
     let mut turns = u64::MAX;
-    while turns > 0 && state.more {
-        state = read_piece(state, piece, line, content, out, pool, answers);
+    while turns > 0 && (input.more & unit.taken) {
+        input = step(begun(input), &mut piece, &mut line);
+        let command = command_of(input, &line, &mut content);
+        unit = obey(unit, command, &content, &mut pool);
         turns -= 1;
     }
-    // the last line may lack its newline
-    state = end_line(state, line, content, out, pool, answers);
-    flush(state, answers);
-}
-
-fn main() {
-    let mut piece = [0u8; 65536];
-    // a line of 300,000 bytes, and one byte more to tell a longer one
-    let mut line = [0u8; 300001];
-    // a byte takes two digits, so a line says fewer
-    let mut content = [0u8; 150000];
-    let mut out = [0u8; commands::OUTLEN];
-    let mut pool = [0u8; 65536];
-    let mut answers = [0u8; 400000];
-    serve(
-        &mut piece,
-        &mut line,
-        &mut content,
-        &mut out,
-        &mut pool,
-        &mut answers,
-    );
 }

@@ -1,0 +1,159 @@
+// The open sessions of a link as text: the STATE of docs/DRIVER.md. Its layout is that of link's `Link` and session's `Row`.
+// It assumes nothing of the link.
+ghost use Prim.Native.Nat.{_≤_};
+use link::Link;
+use session::Reassembly;
+use session::Row;
+use session::Running;
+use text::Text;
+
+// The services, by their places in a row.
+const SERVICES: [u8; 5] = [0x00, 0x07, 0x0a, 0x0b, 0x0f];
+
+// The numbers of an owner's blocks, joined by dots.
+fn with_blocks(text: Text, owners: [u8; 256], owner: u8) -> Text
+    ensures { λ r. ⌜ r .end ≤ 4096 ⌝ }
+{
+    let start = text.end;
+    let mut after = text;
+    let mut b: usize = 0;
+    while b < 256 {
+        if owners[b] == owner {
+            after = after.joint(start, b'.').decimal(b as u64);
+        }
+        b += 1;
+    }
+    after.same()
+}
+
+// ID/TOTAL/COUNT/FRAMESTOCOME/BYTESMISSING/
+fn with_counts(text: Text, message: Reassembly) -> Text
+    ensures { λ r. ⌜ r .end ≤ 4096 ⌝ }
+{
+    let mut after = text.number32(b'/', message.id.0);
+    after = after.number32(b'/', message.total);
+    after = after.number32(b'/', message.count);
+    after = after.number32(b'/', message.frames);
+    after = after.number32(b'/', message.missing);
+    after.byte(b'/')
+}
+
+// A message in a list that begins at `start`, if it is open: SERVICE, its numbers and its blocks.
+fn with_message(
+    text: Text,
+    start: usize,
+    message: Reassembly,
+    service: u8,
+    owners: [u8; 256],
+    owner: u8,
+) -> Text
+    ensures { λ r. ⌜ r .end ≤ 4096 ⌝ }
+{
+    if message.live {
+        let listed = text.joint(start, b'+').pair(service);
+        return with_blocks(with_counts(listed, message), owners, owner);
+    }
+    text.same()
+}
+
+// The open messages of row i; the blocks of its message at a place have the owner 1 + 5 * i + place.
+fn with_messages(text: Text, row: Row, i: usize, owners: [u8; 256]) -> Text
+    ensures { λ r. ⌜ r .end ≤ 4096 ⌝ }
+{
+    let messages = row.messages;
+    let start = text.end;
+    let mut after = text;
+    let mut owner = (5 * (i % 8)) as u8;
+    let mut place: usize = 0;
+    while place < 5 {
+        owner = std::num::wrapping_add_u8(owner, 1);
+        after = with_message(
+            after,
+            start,
+            messages[place],
+            SERVICES[place],
+            owners,
+            owner,
+        );
+        place += 1;
+    }
+    after.listed(start)
+}
+
+// A service and the hash of its start.
+fn with_service(text: Text, before: u8, service: u8, hash: u32) -> Text
+    ensures { λ r. ⌜ r .end ≤ 4096 ⌝ }
+{
+    text.byte(before).pair(service).number32(b'=', hash)
+}
+
+// A service, if it runs.
+fn with_running(text: Text, service: u8, running: Running) -> Text
+    ensures { λ r. ⌜ r .end ≤ 4096 ⌝ }
+{
+    if running.on {
+        return with_service(text, b'+', service, running.hash);
+    }
+    text.same()
+}
+
+// The services that run; 07 runs as long as the session.
+fn with_services(text: Text, row: Row) -> Text
+    ensures { λ r. ⌜ r .end ≤ 4096 ⌝ }
+{
+    let rpc = with_service(text, b',', 0x07, row.hash);
+    let audio = with_running(rpc, 0x0a, row.audio);
+    with_running(audio, 0x0b, row.video)
+}
+
+// id,G,C,version,next
+fn with_numbers(text: Text, row: Row) -> Text
+    ensures { λ r. ⌜ r .end ≤ 4096 ⌝ }
+{
+    let mut after = text.decimal(row.id.0 as u64);
+    after = after.number32(b',', row.guarantee as u32);
+    after = after.number32(b',', row.cap as u32);
+    after = after.number8(b',', row.version);
+    after.number32(b',', row.next)
+}
+
+// Row i in a list that begins at `start`: id,G,C,version,next,services,held,messages
+fn with_session(text: Text, start: usize, row: Row, i: usize, owners: [u8; 256]) -> Text
+    ensures { λ r. ⌜ r .end ≤ 4096 ⌝ }
+{
+    let numbers = with_numbers(text.joint(start, b';'), row);
+    let services = with_services(numbers, row);
+    let held = services.number(b',', session::held(row) as u64);
+    with_messages(held.byte(b','), row, i, owners)
+}
+
+// The row with an id; 8 if there is none.
+fn row_of(rows: [Row; 8], id: u8) -> usize {
+    let mut i: usize = 0;
+    while i < 8 {
+        if rows[i].id.0 == id {
+            return i;
+        }
+        i += 1;
+    }
+    8
+}
+
+// The open sessions by rising id, joined by semicolons.
+pub fn with_sessions(text: Text, link: Link) -> Text
+    ensures { λ r. ⌜ r .end ≤ 4096 ⌝ }
+{
+    let rows = link.rows;
+    let owners = link.owners;
+    let start = text.end;
+    let mut after = text;
+    let mut id: u8 = 0;
+    while id < 255 {
+        id += 1;
+        let i = row_of(rows, id);
+        if i < 8 {
+            after = with_session(after, start, rows[i], i, owners);
+        }
+    }
+    after.listed(start)
+}

@@ -1,0 +1,19 @@
+-- `text::Text::pair` meets its contract: the digits of one byte are two.
+-- Assumes nothing.
+use Rattle.lines.specs.Hex.{hexOf}
+use borrow.Author.Needs.{needs}
+use Rattle.text.proofs.Text.pair.Statement.{statement}
+use Rattle.text.proofs.Text.pair.Tie as tie
+
+slice-aggregate-digits : tie.Need-slice-aggregate-digits
+slice-aggregate-digits c = search needs
+
+digits-requires : tie.Need-digits-requires
+digits-requires c κs = search needs
+
+returns : tie.Need-returns
+unfolding hexOf
+returns c = c .digits .ensures
+
+pub pair-spec : {M : Type 1} → statement M
+pair-spec = tie.close (tie.spec slice-aggregate-digits digits-requires returns)

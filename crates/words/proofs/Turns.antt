@@ -1,0 +1,83 @@
+-- Lists compared, the rest of a line, numbers read one by one, and what decoding the last word leaves. By the laws of take and drop and by induction over
+-- lists. Assumes nothing.
+use Prim.Native.Nat.{ℕ, suc, _+_, _-_, _≤_, _<_, min}
+use mathlib.Core.Path.{_≡_, refl, ap, _∙_, sym}
+use mathlib.Core.Bool.{Bool, true, false, _&&_}
+use mathlib.Core.List.{List, [], _∷_}
+use native.Mathlib.Omega.{arith}
+use lib.Dec.{eqb}
+use lib.ListN.{length, take, drop, getD, length-take, length-drop, drop-of-length-le}
+use lib.Seq.{take-all, drop-cons, getD-take}
+use borrow.Author.Tests.{eq-eqb, eqb-true}
+use Rattle.lines.specs.declared.Decoded.{Decoded}
+use Rattle.lines.specs.Text.{every}
+use Rattle.lines.specs.Hex.{Decoding, decoded, decodeOf, isLowerHex}
+use Rattle.lines.proofs.Turns.{both}
+use Rattle.text.proofs.Lists.{take-min, drop-min}
+use Rattle.words.specs.declared.Numbers.{Numbers}
+use Rattle.words.specs.Words.{sameBytes, between, wordAt, withWord, numbersFrom}
+use Rattle.words.specs.Lines.{leaves, lastBy, decodedWord, hexWord}
+
+same-self : (a : List ℕ) → sameBytes a a ≡ true
+same-self [] = refl
+same-self (x ∷ xs) = rw (eq-eqb x x refl, same-self xs)
+
+same-eq : (a b : List ℕ) → sameBytes a b ≡ true → a ≡ b
+same-eq [] [] e = refl
+same-eq [] (y ∷ ys) e = let z : _≡_ {A = ℕ} 0 1 = cc in absurd (omega arith)
+same-eq (x ∷ xs) [] e = let z : _≡_ {A = ℕ} 0 1 = cc in absurd (omega arith)
+same-eq (x ∷ xs) (y ∷ ys) e =
+    let b = both (eqb x y) (sameBytes xs ys) e in
+    let p : x ≡ y = eqb-true x y (b .0) in
+    let q : xs ≡ ys = same-eq xs ys (b .1) in
+    cc
+
+-- a test that holds just where two lists are equal is `sameBytes`
+pub test-is : (r : Bool) (a b : List ℕ) → (r ≡ true → a ≡ b) → (a ≡ b → r ≡ true) → r ≡ sameBytes a b
+test-is r a b f g = go r (sameBytes a b) refl refl
+  where
+    go : (x y : Bool) → r ≡ x → sameBytes a b ≡ y → r ≡ sameBytes a b
+    go true true p q = p ∙ sym q
+    go false false p q = p ∙ sym q
+    go true false p q = let e : a ≡ b = f p in sym (same-self a ∙ sym p) ∙ ap (λ (l : List ℕ). sameBytes a l) e
+    go false true p q = g (same-eq a b q) ∙ sym q
+
+-- the part of a slice from a to its end, where a is a place cut at the length
+pub rest-is : (line : List ℕ) (space end : ℕ) {w : List ℕ} {a : ℕ} → w ≡ take end line → a ≡ min (1 + space) (length w) → take (length w - a) (drop a w) ≡ between line space end
+rest-is line space end {w} {a} e h =
+    let l : length (drop a w) ≤ length w - a = omega (arith, length-drop a w) in
+    take-all (length w - a) (drop a w) l ∙ ap (λ (i : ℕ). drop i w) h ∙ drop-min (1 + space) w ∙ ap (drop (1 + space)) e
+
+-- one number more, and no more
+module _ (line limits : List ℕ) (i : ℕ) (n : Numbers) where
+  pub numbers-turn : i < length limits → {m : ℕ} → m ≡ getD limits i 0
+      → numbersFrom line (drop (i + 1) limits) (i + 1) (withWord n i (wordAt line (n .end) m)) ≡ numbersFrom line (drop i limits) i n
+  unfolding numbersFrom
+  numbers-turn h e =
+      let z : i + 1 ≡ suc i = omega arith in
+      let d : drop i limits ≡ getD limits i 0 ∷ drop (i + 1) limits = drop-cons limits i 0 h ∙ ap (λ (k : ℕ). getD limits i 0 ∷ drop k limits) (sym z) in
+      rw (e, d)
+
+  pub numbers-end : length limits ≤ i → n ≡ numbersFrom line (drop i limits) i n
+  unfolding numbersFrom
+  numbers-end h = rw (drop-of-length-le limits {i = i} h)
+
+-- the limits, of which the code takes at most nine
+module _ (count : ℕ) (most : List ℕ) (l : length most ≡ 9) {c : ℕ} (h : c ≡ min count 9) where
+  pub limits-are : take c most ≡ take count most
+  limits-are =
+      let z : c ≡ min count (length most) = omega (arith, h, l) in
+      ap (λ (i : ℕ). take i most) z ∙ take-min count most
+
+  pub limits-length : length (take c most) ≡ c
+  limits-length = omega (arith, h, l, length-take c most)
+
+  pub limit-at : (i : ℕ) → i < c → getD most i 0 ≡ getD (take c most) i 0
+  limit-at i k = sym (getD-take c most i 0 k)
+
+-- what decoding a word that is not `-` leaves
+pub decoded-is : (word content : List ℕ) {after : List ℕ} {a : Decoded} {lower : Bool} → sameBytes word (45 ∷ []) ≡ false → lower ≡ every isLowerHex word
+    → decoded a after ≡ decodeOf word content → leaves (lastBy lower a) after ≡ hexWord word content
+unfolding hexWord
+decoded-is word content {after} {a} {lower} s e d =
+    rw s (ap (λ (b : Bool). leaves (lastBy b a) after) e ∙ ap (decodedWord (every isLowerHex word)) d)

@@ -1,0 +1,30 @@
+-- `words::last_word` meets its contract, by whether the command is `new`.
+-- Assumes nothing.
+use Prim.Native.Nat.{ℕ}
+use mathlib.Core.Path.{ap, _∙_}
+use mathlib.Core.List.{List}
+use borrow.Author.Tests.{eq-eqb, ne-eqb}
+use Rattle.words.specs.Lines.{hexWord, lastOf}
+use borrow.Author.Needs.{needs}
+use Rattle.words.proofs.last_word.Statement.{statement}
+use Rattle.words.proofs.last_word.Tie as tie
+
+returns : tie.Need-returns
+unfolding lastOf
+returns c = rw (eq-eqb (c .before .before .before .args .kind) 5 (c .if1 .taken))
+
+between-requires : tie.Need-between-requires
+between-requires c κs = search needs
+
+hex-requires : tie.Need-hex-requires
+hex-requires c κs = search needs
+
+same-length : tie.Need-same-length
+same-length c = search needs
+
+returns-2 : tie.Need-returns-2
+unfolding lastOf
+returns-2 c = rw (ne-eqb (c .before .before .before .before .before .before .before .before .args .kind) 5 (c .before .before .before .before .before .if1 .left)) ((c .before .before .hex .ensures) ∙ ap (λ (w : List ℕ). hexWord w (c .before .before .before .before .before .before .before .before .args .content .now)) (c .before .before .before .before .between .ensures))
+
+pub last-word-spec : {M : Type 1} → statement M
+last-word-spec = tie.close (tie.spec returns between-requires hex-requires same-length returns-2)
