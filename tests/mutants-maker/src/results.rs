@@ -23,7 +23,12 @@ impl Results {
         };
         Ok(Results {
             path: path.to_path_buf(),
-            known: text.lines().filter_map(parsed).collect(),
+            // what could not be told is tried again
+            known: text
+                .lines()
+                .filter_map(parsed)
+                .filter(|(_, said)| said.0 != Verdict::Unclear)
+                .collect(),
         })
     }
 
