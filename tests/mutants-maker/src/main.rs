@@ -1,12 +1,15 @@
 //! Tries small edits of the crates' code and counts those that the prover refuses. `../mutants` says how it is run.
 
+mod batches;
 mod edits;
 mod fields;
+mod functions;
 mod mutants;
 mod places;
 mod results;
 mod tokens;
 mod tree;
+mod trial;
 
 use std::env;
 use std::fs;
@@ -18,6 +21,7 @@ use fields::Fields;
 use mutants::Mutant;
 use results::Results;
 use tree::{Tree, Verdict};
+use trial::Trial;
 
 const USAGE: &str = "usage: mutants REPOSITORY [--list] [--every N] CRATE..";
 
@@ -110,23 +114,26 @@ fn tried(
     let all = mutants::mutants(&folder, fields)?;
     let count = all.len();
     let chosen = mutants::sample(all, arguments.every);
-    let mut tree = None;
-    let mut said = Vec::new();
-    for mutant in &chosen {
-        let verdict = match results.of(name, &version, mutant) {
-            Some(known) => known,
-            None => {
-                if tree.is_none() {
-                    tree = Some(proved_tree(&arguments.repository, name)?);
-                }
-                let new = verdict(tree.as_ref().expect("made above"), mutant)?;
+    let mut waiting: Vec<&Mutant> = chosen.iter().collect();
+    waiting.retain(|mutant| results.of(name, &version, mutant).is_none());
+    if !waiting.is_empty() {
+        let trial = Trial {
+            tree: proved_tree(&arguments.repository, name)?,
+            functions: mutants::functions(&folder)?,
+            name,
+        };
+        while !waiting.is_empty() {
+            for (mutant, new) in trial.next(&waiting)? {
                 results.add(name, &version, mutant, new)?;
                 println!("{name} {}: {} ({:.1} s)", mutant.place, new.0.name(), new.1);
-                new
             }
-        };
-        said.push(verdict);
+            waiting.retain(|mutant| results.of(name, &version, mutant).is_none());
+        }
     }
+    let said: Vec<(Verdict, f64)> = chosen
+        .iter()
+        .filter_map(|mutant| results.of(name, &version, mutant))
+        .collect();
     Ok(row(name, count, &said))
 }
 
@@ -159,18 +166,4 @@ fn proved_tree(repository: &Path, name: &str) -> io::Result<Tree> {
     }
     println!("{name}: proved without an edit ({seconds:.1} s)");
     Ok(tree)
-}
-
-/// What the prover says of a mutant. One that survives is checked once more with nothing kept of earlier checks.
-fn verdict(tree: &Tree, mutant: &Mutant) -> io::Result<(Verdict, f64)> {
-    let file = tree.file(&mutant.path);
-    let before = fs::read_to_string(&file)?;
-    fs::write(&file, &mutant.text)?;
-    let mut answer = tree.check()?;
-    if answer.0 == Verdict::Survived {
-        let (sure, seconds) = tree.check_from_nothing()?;
-        answer = (sure, answer.1 + seconds);
-    }
-    fs::write(&file, before)?;
-    Ok(answer)
 }

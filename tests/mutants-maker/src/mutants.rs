@@ -6,6 +6,7 @@ use std::path::{Path, PathBuf};
 
 use crate::edits::{edits, Edit};
 use crate::fields::Fields;
+use crate::functions::Functions;
 use crate::tokens::tokens;
 
 /// One edit of one file of a crate.
@@ -14,16 +15,17 @@ pub struct Mutant {
     pub path: String,
     /// path, line and column
     pub place: String,
+    /// the function it is in
+    pub function: Option<String>,
     pub kind: &'static str,
     /// the lines that the edit touches, before and after it
     pub old: String,
     pub new: String,
-    /// the whole file after it
-    pub text: String,
+    edit: Edit,
 }
 
 impl Mutant {
-    fn of(path: &str, source: &str, edit: Edit) -> Mutant {
+    fn of(path: &str, source: &str, functions: &Functions, edit: Edit) -> Mutant {
         let first = source[..edit.start].rfind('\n').map_or(0, |at| at + 1);
         let last = source[edit.end..]
             .find('\n')
@@ -33,6 +35,9 @@ impl Mutant {
         Mutant {
             path: path.to_string(),
             place: format!("{path}:{line}:{column}"),
+            function: functions
+                .at(path, edit.start)
+                .map(|function| function.name.clone()),
             kind: edit.kind,
             old: joined(&source[first..last]),
             new: joined(&format!(
@@ -41,12 +46,7 @@ impl Mutant {
                 edit.new,
                 &source[edit.end..last]
             )),
-            text: format!(
-                "{}{}{}",
-                &source[..edit.start],
-                edit.new,
-                &source[edit.end..]
-            ),
+            edit,
         }
     }
 
@@ -54,6 +54,21 @@ impl Mutant {
     pub fn key(&self) -> String {
         format!("{}\t{}\t{}\t{}", self.place, self.kind, self.old, self.new)
     }
+}
+
+/// A file after some edits of it, no two of which touch.
+pub fn edited(source: &str, mutants: &[&Mutant]) -> String {
+    let mut edits: Vec<&Edit> = mutants.iter().map(|mutant| &mutant.edit).collect();
+    edits.sort_by_key(|edit| edit.start);
+    let mut text = String::new();
+    let mut at = 0;
+    for edit in edits {
+        text.push_str(&source[at..edit.start]);
+        text.push_str(&edit.new);
+        at = edit.end;
+    }
+    text.push_str(&source[at..]);
+    text
 }
 
 /// The words of some lines in one line.
@@ -73,20 +88,26 @@ pub fn declared_fields(repository: &Path, crates: &[String]) -> io::Result<Field
     Ok(fields)
 }
 
+/// The functions of a crate.
+pub fn functions(folder: &Path) -> io::Result<Functions> {
+    let mut functions = Functions::default();
+    for path in files(&folder.join("src"))? {
+        functions.declared(&below(folder, &path), &fs::read_to_string(&path)?);
+    }
+    Ok(functions)
+}
+
 /// All mutants of a crate, by file and place.
 pub fn mutants(folder: &Path, fields: &Fields) -> io::Result<Vec<Mutant>> {
+    let functions = functions(folder)?;
     let mut all = Vec::new();
     for path in files(&folder.join("src"))? {
         let source = fs::read_to_string(&path)?;
-        let below = path
-            .strip_prefix(folder)
-            .expect("it was found there")
-            .to_string_lossy()
-            .to_string();
+        let below = below(folder, &path);
         all.extend(
             edits(&source, fields)
                 .into_iter()
-                .map(|edit| Mutant::of(&below, &source, edit)),
+                .map(|edit| Mutant::of(&below, &source, &functions, edit)),
         );
     }
     Ok(all)
@@ -112,15 +133,17 @@ pub fn version(folder: &Path) -> io::Result<String> {
     let mut total = 0;
     for part in ["src", "specs", "proofs"] {
         for path in files(&folder.join(part))? {
-            let name = path
-                .strip_prefix(folder)
-                .expect("it was found there")
-                .to_string_lossy()
-                .to_string();
+            let name = below(folder, &path);
             total = sum(sum(total, name.as_bytes()), &fs::read(path)?);
         }
     }
     Ok(format!("{total:016x}"))
+}
+
+/// A path below a folder, as it is printed.
+fn below(folder: &Path, path: &Path) -> String {
+    let rest = path.strip_prefix(folder).expect("it was found there");
+    rest.to_string_lossy().to_string()
 }
 
 /// FNV-1a, from an earlier sum on; its last bits are mixed, since short names differ in few.

@@ -71,8 +71,15 @@ fn mark_value(source: &str, tokens: &[Token], from: usize, marked: &mut [bool]) 
     end
 }
 
-/// The body is the first brace behind a signature that belongs to no `requires` or `ensures`.
 fn mark_body(source: &str, tokens: &[Token], from: usize, marked: &mut [bool]) -> usize {
+    let (at, end) = body(source, tokens, from);
+    marked[at..end].fill(true);
+    unmark_types(source, &tokens[at..end], &mut marked[at..end]);
+    end
+}
+
+/// The body of the function whose `fn` stands at `from`: the first brace behind its signature that belongs to no `requires` or `ensures`.
+pub fn body(source: &str, tokens: &[Token], from: usize) -> (usize, usize) {
     let mut at = from;
     while at < tokens.len() {
         match tokens[at].text(source) {
@@ -82,10 +89,7 @@ fn mark_body(source: &str, tokens: &[Token], from: usize, marked: &mut [bool]) -
             _ => at += 1,
         }
     }
-    let end = past_block(source, tokens, at);
-    marked[at..end].fill(true);
-    unmark_types(source, &tokens[at..end], &mut marked[at..end]);
-    end
+    (at, past_block(source, tokens, at))
 }
 
 /// `let name: TYPE = ..`: the type is no code.

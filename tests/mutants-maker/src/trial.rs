@@ -1,0 +1,85 @@
+//! Tries mutants of one crate: several in one check, and one alone where that says nothing of it.
+
+use std::collections::BTreeMap;
+use std::fs;
+use std::io;
+
+use crate::batches::{self, Said};
+use crate::functions::Functions;
+use crate::mutants::{edited, Mutant};
+use crate::tree::{Tree, Verdict};
+
+pub struct Trial<'n> {
+    pub tree: Tree,
+    pub functions: Functions,
+    /// of the crate
+    pub name: &'n str,
+}
+
+type Answer = (Verdict, f64);
+
+impl Trial<'_> {
+    /// Tries some of those that wait, at least one.
+    pub fn next<'m>(&self, waiting: &[&'m Mutant]) -> io::Result<Vec<(&'m Mutant, Answer)>> {
+        let has_proof = |function: &str| self.tree.file(&batches::proof_file(function)).is_file();
+        self.tried(&batches::next(waiting, &self.functions, has_proof))
+    }
+
+    /// A batch; its halves, where one check says nothing of the whole.
+    fn tried<'m>(&self, batch: &[&'m Mutant]) -> io::Result<Vec<(&'m Mutant, Answer)>> {
+        if let [one] = batch {
+            return Ok(vec![(one, self.alone(one)?)]);
+        }
+        let (verdict, seconds) = self.with(batch, || self.tree.check())?;
+        if matches!(verdict, Verdict::NotCompiled | Verdict::Unclear) {
+            let (first, second) = batch.split_at(batch.len() / 2);
+            let mut answers = self.tried(first)?;
+            answers.extend(self.tried(second)?);
+            return Ok(answers);
+        }
+        let log = fs::read_to_string(self.tree.log())?;
+        let each = seconds / batch.len() as f64;
+        let mut answers = Vec::new();
+        for mutant in batch {
+            let function = mutant.function.as_deref().unwrap_or("");
+            let answer = match batches::said(&log, self.name, function) {
+                Said::Refused => (Verdict::Refused, each),
+                Said::Proved | Said::Nothing => self.alone(mutant)?,
+            };
+            answers.push((*mutant, answer));
+        }
+        Ok(answers)
+    }
+
+    /// One that survives is checked once more with nothing kept of earlier checks.
+    fn alone(&self, mutant: &Mutant) -> io::Result<Answer> {
+        self.with(&[mutant], || {
+            let first = self.tree.check()?;
+            if first.0 != Verdict::Survived {
+                return Ok(first);
+            }
+            let (sure, seconds) = self.tree.check_from_nothing()?;
+            Ok((sure, first.1 + seconds))
+        })
+    }
+
+    /// Does something while the edits stand in the tree.
+    fn with<T>(&self, batch: &[&Mutant], act: impl FnOnce() -> io::Result<T>) -> io::Result<T> {
+        let mut by_file: BTreeMap<&str, Vec<&Mutant>> = BTreeMap::new();
+        for mutant in batch {
+            by_file.entry(&mutant.path).or_default().push(mutant);
+        }
+        let mut before = Vec::new();
+        for (path, mutants) in by_file {
+            let file = self.tree.file(path);
+            let source = fs::read_to_string(&file)?;
+            fs::write(&file, edited(&source, &mutants))?;
+            before.push((file, source));
+        }
+        let done = act();
+        for (file, source) in before {
+            fs::write(file, source)?;
+        }
+        done
+    }
+}
