@@ -41,16 +41,10 @@ struct Left {
     bench: Bench,
 }
 
-fn least(a: usize, b: usize) -> usize
-    ensures { λ r. ⌜ r ≡ min a b ⌝ }
-{
-    if a < b { a } else { b }
-}
-
 // So many behind a place, and at most the last one.
 fn past(at: usize, count: usize, last: usize) -> usize {
-    let start = least(at, last);
-    start + least(count, last - start)
+    let start = numbers::least(at, last);
+    start + numbers::least(count, last - start)
 }
 
 // The place behind one, within a length.
@@ -62,7 +56,7 @@ fn behind(place: usize, length: usize) -> usize
 
 // The first bytes of a slice, all of them where it has fewer than asked for.
 fn front(whole: &[u8], count: usize) -> &[u8] {
-    let end = least(count, whole.len());
+    let end = numbers::least(count, whole.len());
     &whole[0..end]
 }
 
@@ -70,8 +64,8 @@ fn front(whole: &[u8], count: usize) -> &[u8] {
 fn put(buffer: &mut [u8], at: usize, bytes: &[u8]) -> usize
     ensures { λ r. ⌜ r ≤ length (now (buffer .exit)) ⌝ }
 {
-    let start = least(at, buffer.len());
-    let count = least(bytes.len(), buffer.len() - start);
+    let start = numbers::least(at, buffer.len());
+    let count = numbers::least(bytes.len(), buffer.len() - start);
     let end = start + count;
     bytes::copy(&bytes[0..count], &mut buffer[start..end]);
     end

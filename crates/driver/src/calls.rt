@@ -142,7 +142,7 @@ fn grant_of(command: Command) -> Grant {
 // call G C HASH OUTLEN HEX
 pub fn call(link: Link, command: Command, input: &[u8], pool: &mut [u8; POOL]) -> Unit {
     let mut out = output::untouched();
-    let lent = text::least(command.lent as usize, OUTLEN);
+    let lent = numbers::least(command.lent as usize, OUTLEN);
     let called = headunit::call(link, pool, input, &mut out[0..lent], grant_of(command));
     write_called(called, &out, lent, pool)
 }

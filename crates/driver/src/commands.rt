@@ -159,7 +159,7 @@ fn filled_text(command: Command, input: &[u8], out: &mut [u8]) -> Text
 // Carries out a command that fills an out buffer and writes its answer. Answers whether that was taken.
 fn fill(command: Command, input: &[u8]) -> bool {
     let mut out = output::untouched();
-    let lent = text::least(command.lent as usize, output::OUTLEN);
+    let lent = numbers::least(command.lent as usize, output::OUTLEN);
     let text = filled_text(command, input, &mut out[0..lent]);
     output::write(text, &out)
 }

@@ -53,7 +53,7 @@ fn read_piece(mut input: Input, piece: &mut [u8]) -> Input {
 
 // What the piece still has of a line goes behind what is gathered.
 fn take_part(mut input: Input, piece: &[u8], line: &mut [u8]) -> Input {
-    let at = text::least(input.at, piece.len());
+    let at = numbers::least(input.at, piece.len());
     let end = bytes::scan::find(piece, at, piece.len(), b'\n');
     input.filled = text::put(line, input.filled, &piece[at..end]);
     input.at = text::past(end, piece.len());

@@ -215,18 +215,12 @@ pub fn read(bytes: &[u8]) -> Reading
     )
 }
 
-fn least(a: usize, b: usize) -> usize
-    ensures { λ r. ⌜ r ≡ min a b ⌝ }
-{
-    if a < b { a } else { b }
-}
-
 // The payload part of the bytes that were read.
 pub fn payload(bytes: &[u8], extent: Extent) -> &[u8]
     ensures { λ r. ⌜ now r ≡ part (now (bytes .entry)) (extent .start) (extent .end - extent .start) ⌝ }
 {
-    let end = least(extent.end, bytes.len());
-    let start = least(extent.start, end);
+    let end = numbers::least(extent.end, bytes.len());
+    let start = numbers::least(extent.start, end);
     &bytes[start..end]
 }
 

@@ -180,18 +180,11 @@ fn from(major: u8, row: Row, service: ServiceType) -> From
     }
 }
 
-// a - b, or 0
-fn less(a: u32, b: u32) -> u32
-    ensures { λ r. ⌜ r ≡ a - b ⌝ }
-{
-    if a < b { 0 } else { a - b }
-}
-
 // A payload goes to a message's blocks, right behind the bytes that are there.
 fn feed(owners: &[u8], mine: Owner, message: Reassembly, payload: &[u8], pool: &mut [u8])
     ensures { λ _. ⌜ now (pool .exit) ≡ appended (mine .0) (message .total - message .missing) (now (payload .entry)) (now (owners .entry)) (now (pool .entry)) ⌝ }
 {
-    let there = less(message.total, message.missing) as usize;
+    let there = numbers::less(message.total, message.missing) as usize;
     blocks::append(owners, mine, there, payload, pool);
 }
 
@@ -305,12 +298,6 @@ fn decide(
 
 // ---- opening
 
-fn least(a: u8, b: u8) -> u8
-    ensures { λ r. ⌜ r ≡ min a b ⌝ }
-{
-    if a < b { a } else { b }
-}
-
 // A version 1 Start Service, service 07, session 0.
 fn is_opening(header: Header) -> bool
     ensures { λ r. ⌜ r ≡ opens header ⌝ }
@@ -377,7 +364,7 @@ fn not_readable(link: Link, consumed: usize, out: &mut [u8]) -> Called
     ensures { λ r. ⌜ ((p : List ℕ) (g : Offer) → leaves r p (now (out .exit)) ≡ notOpened link p (now (out .entry)) consumed g (nakPayload protocolVersion)) ⌝ }
 {
     let from = From {
-        version: least(link.version.major, 4),
+        version: numbers::least_byte(link.version.major, 4),
         service: ServiceType(7),
         session: SessionId(0),
     };
@@ -393,7 +380,7 @@ fn not_admitted(link: Link, consumed: usize, out: &mut [u8]) -> Called
     ensures { λ r. ⌜ ((p : List ℕ) (g : Offer) → leaves r p (now (out .exit)) ≡ notOpened link p (now (out .entry)) consumed g []) ⌝ }
 {
     let from = From {
-        version: least(link.version.major, 4),
+        version: numbers::least_byte(link.version.major, 4),
         service: ServiceType(7),
         session: SessionId(0),
     };
@@ -431,7 +418,7 @@ fn opened_old(
         grant.hash,
     );
     let from = From {
-        version: least(link.version.major, 4),
+        version: numbers::least_byte(link.version.major, 4),
         service: ServiceType(7),
         session: id,
     };

@@ -163,12 +163,6 @@ fn put_group(text: &[u8], out: &mut [u8])
     put_pairs(&pairs[0..count], out);
 }
 
-fn least(a: usize, b: usize) -> usize
-    ensures { λ r. ⌜ r ≡ min a b ⌝ }
-{
-    if a < b { a } else { b }
-}
-
 // The bytes of a text of digits to the front of out.
 fn put_bytes(text: &[u8], out: &mut [u8])
     requires { ⌜ (every isHex (now text) ≡ true) × (length (now text) / 2 ≤ length (now out)) ⌝ }
@@ -177,7 +171,7 @@ fn put_bytes(text: &[u8], out: &mut [u8])
     let count = text.len() / 2;
     let mut done: usize = 0;
     while done < count {
-        let next = done + least(GROUP, count - done);
+        let next = done + numbers::least(GROUP, count - done);
         let start = 2 * done;
         let end = 2 * next;
         put_group(&text[start..end], &mut out[done..next]);
@@ -364,7 +358,7 @@ pub fn line_end(text: &[u8], from: usize) -> usize
     ensures { λ r. ⌜ r ≡ lineEndOf (now (text .entry)) from ⌝ }
     ensures { λ r. ⌜ (min from (length (now (text .entry))) ≤ r) × (r ≤ length (now (text .entry))) ⌝ }
 {
-    let start = least(from, text.len());
+    let start = numbers::least(from, text.len());
     let far = pass_groups(text, start, GROUP);
     let near = pass_groups(text, far, SMALL_GROUP);
     near + line_length(&text[near..])

@@ -7,6 +7,26 @@ ghost use lib.Seq.{paste};
 ghost use Rattle.numbers.specs.Bytes.{part, fitsIn, putAt};
 ghost use Rattle.numbers.specs.Numbers.{valueLe, valueBe, bytesLe, bytesBe, Fits};
 
+// The lesser of two; of bytes the next one.
+pub fn least(a: usize, b: usize) -> usize
+    ensures { λ r. ⌜ r ≡ min a b ⌝ }
+{
+    if a < b { a } else { b }
+}
+
+pub fn least_byte(a: u8, b: u8) -> u8
+    ensures { λ r. ⌜ r ≡ min a b ⌝ }
+{
+    if a < b { a } else { b }
+}
+
+// What a has more than b; 0 where it has no more.
+pub fn less(a: u32, b: u32) -> u32
+    ensures { λ r. ⌜ r ≡ a - b ⌝ }
+{
+    if a < b { 0 } else { a - b }
+}
+
 fn wide(b: u8) -> u64
     ensures { λ r. ⌜ r ≡ b ⌝ }
 {

@@ -22,12 +22,6 @@ struct Run {
     accepted: u64,
 }
 
-fn least(a: usize, b: usize) -> usize
-    ensures { λ r. ⌜ r ≡ min a b ⌝ }
-{
-    if a < b { a } else { b }
-}
-
 // The next place of `size` bytes, at least one, within a length.
 fn behind(at: usize, size: usize, length: usize) -> usize
     ensures { λ r. ⌜ r ≡ min (at + max size 1) length ⌝ }
@@ -123,12 +117,12 @@ fn start() -> Run {
 // The beginning once, then as many calls with the rest as asked for.
 fn serve(script: &[u8], pool: &mut [u8], out: &mut [u8]) -> u64 {
     let size = numbers::be4(script, 0) as usize;
-    let first = least(numbers::be4(script, 4) as usize, LONGEST);
-    let again = least(numbers::be4(script, 8) as usize, LONGEST);
+    let first = numbers::least(numbers::be4(script, 4) as usize, LONGEST);
+    let again = numbers::least(numbers::be4(script, 8) as usize, LONGEST);
     let calls = numbers::be4(script, 12) as usize;
-    let start_at = least(16, script.len());
-    let middle = least(start_at + first, script.len());
-    let end = least(middle + again, script.len());
+    let start_at = numbers::least(16, script.len());
+    let middle = numbers::least(start_at + first, script.len());
+    let end = numbers::least(middle + again, script.len());
     let opening = &script[start_at..middle];
     let mut run = go_over(start(), count_places(first, size), opening, size, pool, out);
     run = go_over(run, calls, &script[middle..end], size, pool, out);
@@ -137,7 +131,7 @@ fn serve(script: &[u8], pool: &mut [u8], out: &mut [u8]) -> u64 {
 
 // The first bytes of a slice, all of them where it has fewer.
 fn front(whole: &[u8], count: usize) -> &[u8] {
-    let end = least(count, whole.len());
+    let end = numbers::least(count, whole.len());
     &whole[0..end]
 }
 

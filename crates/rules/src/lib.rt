@@ -7,11 +7,11 @@ ghost use mathlib.Core.Bool.{true, _||_};
 ghost use lib.Dec.{eqb};
 ghost use lib.ListN.{length, drop};
 ghost use Rattle.numbers.specs.Bytes.{pick};
-ghost use Rattle.session.specs.Rules.{isRunning};
 ghost use Rattle.session.specs.Decide.{heldOf, shareOf};
 ghost use Rattle.link.specs.State.{allFrom, settingsFit, roomFits, versionAllowed, serviceAt, messageFits, unsettledFits, freeFits, grantFits, guardOf};
 ghost use Rattle.rules.specs.Parts.{noneLive, sessionFits, idsOf, indexIn, lowestIn, missingIn, distinctIn, holdsNeed, openFit, rowSound, ofSession, shareSum, Summed, Surveyed};
 use blocks::Owner;
+use frame::ServiceType;
 use frame::SessionId;
 use link::Grant;
 use link::Link;
@@ -112,39 +112,17 @@ fn room_fits(row: Row) -> bool
     (row.guarantee <= row.cap) & ((row.cap <= 256) & (session::held(row) <= row.cap as usize))
 }
 
-fn least(a: u8, b: u8) -> u8
-    ensures { λ r. ⌜ r ≡ min a b ⌝ }
-{
-    if a < b { a } else { b }
-}
-
 // Unsettled, or a version that an opening under the module's major one allows.
 fn version_allowed(major: u8, version: u8) -> bool
     ensures { λ r. ⌜ r ≡ versionAllowed major version ⌝ }
 {
-    (version <= least(major, 4)) | ((major == 5) & (version == 5))
+    (version <= numbers::least_byte(major, 4)) | ((major == 5) & (version == 5))
 }
 
 fn service_at(place: usize) -> u8
     ensures { λ r. ⌜ r ≡ serviceAt place ⌝ }
 {
     if place < 5 { SERVICES[place] } else { 0 }
-}
-
-// Whether a service runs: 00 and 07 always do, 0F from version 2 on.
-fn is_running(row: Row, version: u8, number: u8) -> bool
-    ensures { λ r. ⌜ r ≡ isRunning row version number ⌝ }
-{
-    if number == 10 {
-        return row.audio.on;
-    }
-    if number == 11 {
-        return row.video.on;
-    }
-    if number == 15 {
-        return 2 <= version;
-    }
-    true
 }
 
 // An open message is on a running service, with totals as 18 allows and as much to come as its frames can carry.
@@ -154,7 +132,7 @@ fn message_fits(row: Row, place: usize, message: Reassembly) -> bool
     if !message.live {
         return true;
     }
-    is_running(row, row.version, service_at(place))
+    session::runs(row, row.version, ServiceType(service_at(place)))
         & (frame::totals_fit(message.total as usize, message.count as usize)
             & ((1 <= message.frames)
                 & ((message.frames <= message.count)

@@ -36,12 +36,6 @@ fn chunk_fits(version: u8, chunk: u32) -> bool
     chunk <= frame::largest_size(version)
 }
 
-fn least(a: usize, b: usize) -> usize
-    ensures { λ r. ⌜ r ≡ min a b ⌝ }
-{
-    if a < b { a } else { b }
-}
-
 // How many frames follow the First Frame.
 fn frame_count(outgoing: Outgoing, message: &[u8]) -> usize
     requires { ⌜ (1 ≤ outgoing .chunk) × (1 ≤ length (now message)) ⌝ }
@@ -90,7 +84,7 @@ fn put_next(outgoing: Outgoing, place: u32, count: u32, message: &[u8], out: &mu
     let number = frame::frame_number(place as usize, count as usize);
     let chunk = outgoing.chunk as usize;
     let start = (place - 1) as usize * chunk;
-    let end = least(start + chunk, message.len());
+    let end = numbers::least(start + chunk, message.len());
     put(outgoing, 3, number as u8, &message[start..end], out)
 }
 

@@ -169,8 +169,8 @@ impl Row {
     {
         if place < 5 {
             let mut message = self.messages[place];
-            message.frames = less(message.frames, 1);
-            message.missing = less(message.missing, size);
+            message.frames = numbers::less(message.frames, 1);
+            message.missing = numbers::less(message.missing, size);
             self.messages[place] = message;
         }
         self
@@ -219,19 +219,6 @@ impl Row {
     }
 }
 
-// a - b, or 0.
-fn less(a: u32, b: u32) -> u32
-    ensures { λ r. ⌜ r ≡ a - b ⌝ }
-{
-    if a < b { 0 } else { a - b }
-}
-
-fn least(a: u8, b: u8) -> u8
-    ensures { λ r. ⌜ r ≡ min a b ⌝ }
-{
-    if a < b { a } else { b }
-}
-
 fn most(a: usize, b: usize) -> usize
     ensures { λ r. ⌜ r ≡ max a b ⌝ }
 {
@@ -243,7 +230,7 @@ pub fn reply_version(row: Row, major: u8) -> u8
     ensures { λ r. ⌜ r ≡ replyVersion major row ⌝ }
 {
     if row.version == 0 {
-        return least(major, 4);
+        return numbers::least_byte(major, 4);
     }
     row.version
 }
@@ -252,7 +239,7 @@ fn version_fits(row: Row, major: u8, version: u8) -> bool
     ensures { λ r. ⌜ r ≡ versionFits major row version ⌝ }
 {
     if row.version == 0 {
-        return version <= least(major, 4);
+        return version <= numbers::least_byte(major, 4);
     }
     version == row.version
 }
@@ -261,12 +248,13 @@ fn mtu_fits(row: Row, mtu: u32, size: u32) -> bool
     ensures { λ r. ⌜ r ≡ mtuFits mtu row size ⌝ }
 {
     if row.version == 5 {
-        return size <= less(mtu, 12);
+        return size <= numbers::less(mtu, 12);
     }
     true
 }
 
-fn runs(row: Row, version: u8, service: ServiceType) -> bool
+// Whether a service runs: 00 and 07 always do, 0F from version 2 on.
+pub fn runs(row: Row, version: u8, service: ServiceType) -> bool
     ensures { λ r. ⌜ r ≡ isRunning row version (service .0) ⌝ }
 {
     let number = service.0;
@@ -433,7 +421,7 @@ fn first(row: Row, others: u32, header: Header, total: u32, count: u32) -> Act
 fn due_number(message: Reassembly) -> usize
     ensures { λ r. ⌜ r ≡ dueNumber message ⌝ }
 {
-    let come = less(message.count, message.frames);
+    let come = numbers::less(message.count, message.frames);
     frame::frame_number(come as usize + 1, message.count as usize)
 }
 
@@ -444,7 +432,7 @@ fn sizes_fit(message: Reassembly, size: u32) -> bool
     if message.missing < size {
         return false;
     }
-    if message.missing - size < less(message.frames, 1) {
+    if message.missing - size < numbers::less(message.frames, 1) {
         return false;
     }
     if message.frames == 1 {

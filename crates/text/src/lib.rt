@@ -28,12 +28,6 @@ pub struct Text {
 
 // ---- parts of buffers
 
-pub fn least(a: usize, b: usize) -> usize
-    ensures { λ r. ⌜ r ≡ min a b ⌝ }
-{
-    if a < b { a } else { b }
-}
-
 // The place behind one, within a length.
 pub fn past(place: usize, length: usize) -> usize
     ensures { λ r. ⌜ r ≡ min (1 + place) length ⌝ }
@@ -45,7 +39,7 @@ pub fn past(place: usize, length: usize) -> usize
 pub fn front(whole: &[u8], count: usize) -> &[u8]
     ensures { λ r. ⌜ now r ≡ take count (now (whole .entry)) ⌝ }
 {
-    let end = least(count, whole.len());
+    let end = numbers::least(count, whole.len());
     &whole[0..end]
 }
 
@@ -53,8 +47,8 @@ pub fn front(whole: &[u8], count: usize) -> &[u8]
 pub fn part(whole: &[u8], at: usize, count: usize) -> &[u8]
     ensures { λ r. ⌜ now r ≡ partOf (now (whole .entry)) at count ⌝ }
 {
-    let start = least(at, whole.len());
-    let end = start + least(count, whole.len() - start);
+    let start = numbers::least(at, whole.len());
+    let end = start + numbers::least(count, whole.len() - start);
     &whole[start..end]
 }
 
@@ -64,8 +58,8 @@ pub fn put(buffer: &mut [u8], at: usize, bytes: &[u8]) -> usize
     ensures { λ r. ⌜ r ≤ length (now (buffer .exit)) ⌝ }
     ensures { λ r. ⌜ now (buffer .exit) ≡ putInto (now (buffer .entry)) at (now (bytes .entry)) ⌝ }
 {
-    let start = least(at, buffer.len());
-    let count = least(bytes.len(), buffer.len() - start);
+    let start = numbers::least(at, buffer.len());
+    let count = numbers::least(bytes.len(), buffer.len() - start);
     let end = start + count;
     bytes::copy(&bytes[0..count], &mut buffer[start..end]);
     end
@@ -114,7 +108,7 @@ impl Text {
     pub fn same(mut self) -> Text
         ensures { λ r. ⌜ Appended self [] r ⌝ }
     {
-        self.end = least(self.end, ROOM);
+        self.end = numbers::least(self.end, ROOM);
         self
     }
 
@@ -124,7 +118,7 @@ impl Text {
         let mut chars = self.chars;
         let end = put(&mut chars, self.end, text);
         self.chars = chars;
-        self.end = least(end, ROOM);
+        self.end = numbers::least(end, ROOM);
         self
     }
 

@@ -11,7 +11,6 @@ ghost use Rattle.words.specs.Lines.{leaves, hexWord, lastOf, bareCommand
 use lines::Decoded;
 use lines::Number;
 use text::front;
-use text::least;
 use text::past;
 
 // The commands. A line that says none of them is unreadable; a silent one gets no answer.
@@ -235,7 +234,7 @@ fn word_at(line: &[u8], space: usize, most: u64) -> Word
 fn numbers_at(line: &[u8], space: usize, form: Form) -> Numbers
     ensures { λ r. ⌜ r ≡ numbersOf (now (line .entry)) space form ⌝ }
 {
-    let count = least(form.count, NUMBERS);
+    let count = numbers::least(form.count, NUMBERS);
     let most = form.most;
     let mut values = [0u64; NUMBERS];
     let mut good = true;

@@ -39,16 +39,35 @@ impl Trial<'_> {
         }
         let log = fs::read_to_string(self.tree.log())?;
         let each = seconds / batch.len() as f64;
+        let said = |mutant: &Mutant| {
+            let function = mutant.function.as_deref().unwrap_or("");
+            batches::said(&log, self.name, function)
+        };
+        let proved: Vec<&Mutant> = batch
+            .iter()
+            .copied()
+            .filter(|one| said(one) == Said::Proved)
+            .collect();
+        let again = self.sure(&proved)?;
         let mut answers = Vec::new();
         for mutant in batch {
-            let function = mutant.function.as_deref().unwrap_or("");
-            let answer = match batches::said(&log, self.name, function) {
-                Said::Refused => (Verdict::Refused, each),
-                Said::Proved | Said::Nothing => self.alone(mutant)?,
+            let answer = match (said(mutant), again) {
+                (Said::Refused, _) => (Verdict::Refused, each),
+                (Said::Proved, Some(more)) => (Verdict::Survived, each + more),
+                _ => self.alone(mutant)?,
             };
             answers.push((*mutant, answer));
         }
         Ok(answers)
+    }
+
+    /// Those that a check proved, once more together and with nothing kept of earlier checks: the seconds of each, if they are proved again.
+    fn sure(&self, proved: &[&Mutant]) -> io::Result<Option<f64>> {
+        if proved.is_empty() {
+            return Ok(None);
+        }
+        let (verdict, seconds) = self.with(proved, || self.tree.check_from_nothing())?;
+        Ok((verdict == Verdict::Survived).then_some(seconds / proved.len() as f64))
     }
 
     /// One that survives is checked once more with nothing kept of earlier checks.

@@ -13,16 +13,15 @@ use Rattle.headunit.proofs.not_admitted.Statement.{statement}
 use Rattle.headunit.proofs.not_admitted.Tie as tie
 use Rattle.headunit.proofs.not_admitted.Reads as reads
 use Rattle.headunit.proofs.not_admitted.Lts as lts
-use Rattle.headunit.proofs.least.Reads as least-reads
 use Rattle.headunit.proofs.replies.put_empty.Reads as put-empty-reads
 
 -- src/lib.rt:414:32
-least-requires : tie.Need-least-requires
-least-requires c κs = search needs
+least-byte-requires : tie.Need-least-byte-requires
+least-byte-requires c κs = search needs
 
 -- src/lib.rt:415:9
 put-empty-requires : tie.Need-put-empty-requires
-put-empty-requires c κs = ((c .before .before .before .pre .0), (rw (c .before .least .ensures) (omega (arith, (c .before .before .before .pre .1))), (rw (c .before .least .ensures) (omega arith), (rpc-listed, reply-infos .1))))
+put-empty-requires c κs = ((c .before .before .before .pre .0), (rw (c .before .least-byte .ensures) (omega (arith, (c .before .before .before .pre .1))), (rw (c .before .least-byte .ensures) (omega arith), (rpc-listed, reply-infos .1))))
 
 -- src/lib.rt:410:1
 same-length : tie.Need-same-length
@@ -32,7 +31,7 @@ same-length c = search needs
 returns : tie.Need-returns
 returns c =
     let a = (c .before .before .before .before .before .before .args) in
-    λ p g. ap (repliedWith answer.Nacked (a .consumed) (a .link) p) ((c .before .before .put-empty .ensures) ∙ ap (λ (v : ℕ). sentOf (replyBytes v rpc 0x03 0 0 []) (a .out .now)) (c .before .before .before .before .least .ensures))
+    λ p g. ap (repliedWith answer.Nacked (a .consumed) (a .link) p) ((c .before .before .put-empty .ensures) ∙ ap (λ (v : ℕ). sentOf (replyBytes v rpc 0x03 0 0 []) (a .out .now)) (c .before .before .before .before .least-byte .ensures))
 
 pub not-admitted-spec : {M : Type 1} → statement M
-not-admitted-spec = tie.close (tie.spec least-requires put-empty-requires same-length returns)
+not-admitted-spec = tie.close (tie.spec least-byte-requires put-empty-requires same-length returns)

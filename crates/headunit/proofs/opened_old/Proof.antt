@@ -21,11 +21,11 @@ old-version-requires c κs = search needs
 opened-requires : tie.Need-opened-requires
 opened-requires c κs = search needs
 
-least-requires : tie.Need-least-requires
-least-requires c κs = search needs
+least-byte-requires : tie.Need-least-byte-requires
+least-byte-requires c κs = search needs
 
 put-hash-requires : tie.Need-put-hash-requires
-put-hash-requires c κs = ((c .before .before .before .before .before .pre .1 .1 .0), (rw (c .before .least .ensures) (omega (arith, (c .before .before .before .before .before .pre .1 .1 .1 .0))), (rw (c .before .least .ensures) (omega arith), rpc-listed)))
+put-hash-requires c κs = ((c .before .before .before .before .before .pre .1 .1 .0), (rw (c .before .least-byte .ensures) (omega (arith, (c .before .before .before .before .before .pre .1 .1 .1 .0))), (rw (c .before .least-byte .ensures) (omega arith), rpc-listed)))
 
 with-row-requires : tie.Need-with-row-requires
 with-row-requires c κs = (c .before .before .before .before .before .before .before .before .pre .0)
@@ -35,7 +35,7 @@ same-length c = search needs
 
 returns : tie.Need-returns
 returns c = let a = (c .before .before .before .before .before .before .before .before .before .args) in
-    λ p. ap (repliedWith answer.Acked (a .consumed) (c .with-row .result) p) ((c .before .before .before .put-hash .ensures) ∙ ap (λ (v : ℕ). sentOf (replyBytes v rpc 0x02 (a .id .0) 1 (bytesBe 4 (a .grant .hash))) (a .out .now)) (c .before .before .before .before .before .least .ensures)
+    λ p. ap (repliedWith answer.Acked (a .consumed) (c .with-row .result) p) ((c .before .before .before .put-hash .ensures) ∙ ap (λ (v : ℕ). sentOf (replyBytes v rpc 0x02 (a .id .0) 1 (bytesBe 4 (a .grant .hash))) (a .out .now)) (c .before .before .before .before .before .least-byte .ensures)
     ∙ ap (λ (k : ℕ). sentOf (oldAck (a .link .version .major) k (a .grant .hash)) (a .out .now)) (c .before .before .before .before .before .before .before .before .before .pre .1 .1 .1 .1))
     ∙ ap (λ (l : Link). repliedWith answer.Acked (a .consumed) l p (sentOf (oldAck (a .link .version .major) (lowestFree 255 1 (a .link .rows)) (a .grant .hash)) (a .out .now)))
     (opened-link (a .link) (a .i) (a .id) _ _ (a .grant) _ _ (c .before .before .before .before .before .before .before .before .before .pre .1 .0) (c .before .before .before .before .before .before .before .before .before .pre .1 .1 .1 .1) (c .before .before .before .before .before .before .before .old-version .ensures) (c .before .before .before .before .before .before .opened .ensures) (c .with-row .ensures))
@@ -46,7 +46,7 @@ opened-old-spec =
     (tie.spec
     old-version-requires
     opened-requires
-    least-requires
+    least-byte-requires
     put-hash-requires
     with-row-requires
     same-length

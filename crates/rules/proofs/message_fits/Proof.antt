@@ -12,8 +12,8 @@ returns c = rw (c .if1 .taken)
 service-at-requires : tie.Need-service-at-requires
 service-at-requires c κs = search needs
 
-is-running-requires : tie.Need-is-running-requires
-is-running-requires c κs = search needs
+runs-requires : tie.Need-runs-requires
+runs-requires c κs = search needs
 
 cast-totals-fit : tie.Need-cast-totals-fit
 cast-totals-fit c = search needs
@@ -26,7 +26,7 @@ totals-fit-requires c κs = search needs
 
 returns-2 : tie.Need-returns-2
 unfolding messageFits
-returns-2 c = rw ((c .before .before .before .before .before .before .before .before .before .if1 .left), ← (c .before .before .before .before .before .before .before .before .service-at .ensures), ← (c .before .before .before .before .before .before .before .is-running .ensures), ← (c .before .before .before .before .totals-fit .ensures))
+returns-2 c = rw ((c .before .before .before .before .before .before .before .before .before .if1 .left), ← (c .before .before .before .before .before .before .before .before .service-at .ensures), ← (c .before .before .before .before .before .before .before .runs .ensures), ← (c .before .before .before .before .totals-fit .ensures))
 
 pub message-fits-spec : {M : Type 1} → statement M
 message-fits-spec =
@@ -34,7 +34,7 @@ message-fits-spec =
     (tie.spec
     returns
     service-at-requires
-    is-running-requires
+    runs-requires
     cast-totals-fit
     cast-totals-fit-2
     totals-fit-requires

@@ -5,12 +5,12 @@ use borrow.Author.Needs.{needs}
 use Rattle.rules.proofs.version_allowed.Statement.{statement}
 use Rattle.rules.proofs.version_allowed.Tie as tie
 
-least-requires : tie.Need-least-requires
-least-requires c κs = search needs
+least-byte-requires : tie.Need-least-byte-requires
+least-byte-requires c κs = search needs
 
 returns : tie.Need-returns
 unfolding versionAllowed
-returns c = rw (c .least .ensures)
+returns c = rw (c .least-byte .ensures)
 
 pub version-allowed-spec : {M : Type 1} → statement M
-version-allowed-spec = tie.close (tie.spec least-requires returns)
+version-allowed-spec = tie.close (tie.spec least-byte-requires returns)

@@ -18,7 +18,6 @@ use Rattle.sender.proofs.put_next.Tie as tie
 use Rattle.sender.proofs.put_next.Reads as reads
 use Rattle.sender.proofs.put_next.Lts as lts
 use Rattle.frame.proofs.frame_number.Reads as frame-number-reads
-use Rattle.sender.proofs.least.Reads as least-reads
 use Rattle.sender.proofs.put.Reads as put-reads
 
 -- src/lib.rt:90:9

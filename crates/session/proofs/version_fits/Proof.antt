@@ -7,16 +7,16 @@ use borrow.Author.Needs.{needs}
 use Rattle.session.proofs.version_fits.Statement.{statement}
 use Rattle.session.proofs.version_fits.Tie as tie
 
-least-requires : tie.Need-least-requires
-least-requires c κs = search needs
+least-byte-requires : tie.Need-least-byte-requires
+least-byte-requires c κs = search needs
 
 returns : tie.Need-returns
 unfolding versionFits
-returns c = rw (eq-eqb _ _ (c .before .if1 .taken), ← (c .least .ensures))
+returns c = rw (eq-eqb _ _ (c .before .if1 .taken), ← (c .least-byte .ensures))
 
 returns-2 : tie.Need-returns-2
 unfolding versionFits
 returns-2 c = rw (ne-eqb _ _ (c .before .if1 .left))
 
 pub version-fits-spec : {M : Type 1} → statement M
-version-fits-spec = tie.close (tie.spec least-requires returns returns-2)
+version-fits-spec = tie.close (tie.spec least-byte-requires returns returns-2)
