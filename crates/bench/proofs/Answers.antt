@@ -1,24 +1,18 @@
 -- A line is answered by a text wherever the longest one fits. By the two cases of a line, taken or not. Assumes nothing.
 use Prim.Native.Nat.{ℕ, _≤_}
 use mathlib.Core.Path.{_≡_, sym, subst}
-use mathlib.Core.Bool.{Bool, true, false}
 use mathlib.Core.List.{List}
 use lib.ListN.{length}
 use borrow.Author.Tests.{le-leb}
-use Rattle.numbers.specs.Bytes.{pick}
+use Rattle.numbers.proofs.Choices.{either}
 use Rattle.benchline.specs.declared.Bench.{Bench}
 use Rattle.benchline.specs.declared.Turn.{Turn}
 use Rattle.benchline.specs.Line.{Left, left, isTaken, mostText, lineOf}
-use Rattle.bench.specs.Said.{IsText}
-
--- one of two that are texts is a text
-one-of : (b : Bool) (x y : Left) → IsText (x .output) → IsText (y .output) → IsText (pick b x y .output)
-one-of true x y p q = p
-one-of false x y p q = q
+use Rattle.bench.specs.Pieces.{IsText}
 
 line-says : (b : Bench) (line pool out text : List ℕ) → mostText out ≤ length text → IsText (lineOf b line pool out text .output)
 unfolding lineOf
-line-says b line pool out text room = rw (le-leb (mostText out) (length text) room) (one-of (isTaken line) _ _ tt tt)
+line-says b line pool out text room = rw (le-leb (mostText out) (length text) room) (either (λ (l : Left). IsText (l .output)) (isTaken line) _ _ (λ _. tt) (λ _. tt))
 
 -- the same of what `benchline::line` gives back
 pub turn-says : {t : Turn} {pool′ out′ text′ : List ℕ} (b : Bench) (line pool out text : List ℕ) → mostText out ≤ length text

@@ -3,9 +3,10 @@
 // It assumes nothing of the input: bytes of any kind and any number.
 ghost use Prim.Native.Nat.{_+_, _≤_, min};
 ghost use mathlib.Core.Path.{_≡_};
-ghost use lib.ListN.{length};
-ghost use Rattle.benchline.specs.Line.{mostText};
-ghost use Rattle.bench.specs.Said.{IsText};
+ghost use mathlib.Core.List.{_++_};
+ghost use lib.ListN.{length, take};
+ghost use Rattle.benchline.specs.Line.{left, lineOf, mostText};
+ghost use Rattle.bench.specs.Pieces.{IsText, sizeOf, mostKept, runOf, waitingBefore, written, afterLines, linesIn, keptAfter, waits, lastOf};
 use benchline::Bench;
 use benchline::Output;
 use benchline::Turn;
@@ -42,41 +43,19 @@ struct Left {
 }
 
 // So many behind a place, and at most the last one.
-fn past(at: usize, count: usize, last: usize) -> usize {
+fn past(at: usize, count: usize, last: usize) -> usize
+    ensures { λ r. ⌜ r ≡ min (at + count) last ⌝ }
+{
     let start = numbers::least(at, last);
     start + numbers::least(count, last - start)
 }
 
-// The place behind one, within a length.
-fn behind(place: usize, length: usize) -> usize
-    ensures { λ r. ⌜ r ≡ min (1 + place) length ⌝ }
-{
-    if place < length { place + 1 } else { length }
-}
-
-// The first bytes of a slice, all of them where it has fewer than asked for.
-fn front(whole: &[u8], count: usize) -> &[u8] {
-    let end = numbers::least(count, whole.len());
-    &whole[0..end]
-}
-
-// Bytes into a buffer from a place on, as far as they fit; where they end.
-fn put(buffer: &mut [u8], at: usize, bytes: &[u8]) -> usize
-    ensures { λ r. ⌜ r ≤ length (now (buffer .exit)) ⌝ }
-{
-    let start = numbers::least(at, buffer.len());
-    let count = numbers::least(bytes.len(), buffer.len() - start);
-    let end = start + count;
-    bytes::copy(&bytes[0..count], &mut buffer[start..end]);
-    end
-}
-
 // Writes the waiting texts. After a write that failed nothing more is written or read.
 fn flush(mut state: State, texts: &[u8]) -> State
-    ensures { λ r. ⌜ r .waiting ≡ 0 ⌝ }
+    ensures { λ r. ⌜ (r .waiting ≡ 0) × (r .filled ≡ state .filled) ⌝ }
 {
     if state.taken {
-        state.taken = io::write_all(STDOUT_FILENO, front(texts, state.waiting));
+        state.taken = io::write_all(STDOUT_FILENO, text::front(texts, state.waiting));
         state.more = state.more & state.taken;
     }
     state.waiting = 0;
@@ -86,6 +65,7 @@ fn flush(mut state: State, texts: &[u8]) -> State
 // Texts wait as long as the longest one still fits behind them; so `benchline::line` never answers Full.
 fn made_room(state: State, out: &[u8], texts: &[u8]) -> State
     requires { ⌜ mostText (now out) ≤ length (now texts) ⌝ }
+    ensures { λ r. ⌜ (r .waiting ≡ waitingBefore (now (out .entry)) (now (texts .entry)) (state .waiting)) × (r .filled ≡ state .filled) ⌝ }
     ensures { λ r. ⌜ mostText (now (out .entry)) + r .waiting ≤ length (now (texts .entry)) ⌝ }
 {
     let most = 2 * out.len() + 32;
@@ -98,6 +78,7 @@ fn made_room(state: State, out: &[u8], texts: &[u8]) -> State
 // The answer to a line, where the longest text fits: a text.
 fn answer(bench: Bench, line: &[u8], pool: &mut [u8], out: &mut [u8], text: &mut [u8]) -> Turn
     requires { ⌜ mostText (now out) ≤ length (now text) ⌝ }
+    ensures { λ r. ⌜ left r (now (pool .exit)) (now (out .exit)) (now (text .exit)) ≡ lineOf bench (now (line .entry)) (now (pool .entry)) (now (out .entry)) (now (text .entry)) ⌝ }
     ensures { λ r. ⌜ IsText (r .output) ⌝ }
 {
     benchline::line(bench, line, pool, out, text)
@@ -113,19 +94,21 @@ fn answer_line(
     out: &mut [u8],
     text: &mut [u8],
 ) -> Turn
-    requires { ⌜ mostText (now out) ≤ length (now text) ⌝ }
+    requires { ⌜ (mostText (now out) ≤ length (now text)) × (mostKept ≤ length (now line)) ⌝ }
+    ensures { λ r. ⌜ left r (now (pool .exit)) (now (out .exit)) (now (text .exit)) ≡ lineOf bench (take filled (now (line .entry)) ++ now (part .entry)) (now (pool .entry)) (now (out .entry)) (now (text .entry)) ⌝ }
     ensures { λ r. ⌜ IsText (r .output) ⌝ }
 {
     if filled == 0 {
         return answer(bench, part, pool, out, text);
     }
-    let end = put(line, filled, part);
-    answer(bench, front(line, end), pool, out, text)
+    let end = text::put(line, filled, part);
+    answer(bench, text::front(line, end), pool, out, text)
 }
 
 // After a line its text waits behind the others, and nothing is gathered. Full would lose the line: the contract rules it out.
 fn answered(mut state: State, output: Output, texts: usize) -> State
     requires { ⌜ IsText output ⌝ }
+    ensures { λ r. ⌜ (r .filled ≡ 0) × (r .waiting ≡ min (state .waiting + sizeOf output) texts) ⌝ }
 {
     state.filled = 0;
     match output {
@@ -147,7 +130,9 @@ fn take_piece(
     out: &mut [u8],
     texts: &mut [u8],
 ) -> Left
-    requires { ⌜ mostText (now out) ≤ length (now texts) ⌝ }
+    requires { ⌜ (mostText (now out) ≤ length (now texts)) × (mostKept ≤ length (now line)) ⌝ }
+    ensures { λ r. ⌜ runOf (r .bench) (now (pool .exit)) (now (out .exit)) (now (texts .exit)) (r .state .waiting) ≡ afterLines (runOf (left .bench) (now (pool .entry)) (now (out .entry)) (now (texts .entry)) (left .state .waiting)) (linesIn (take (left .state .filled) (now (line .entry))) (now (piece .entry))) ⌝ }
+    ensures { λ r. ⌜ take (r .state .filled) (now (line .exit)) ≡ take (length (now (line .entry))) (keptAfter (take (left .state .filled) (now (line .entry))) (now (piece .entry))) ⌝ }
 {
     let mut state = left.state;
     let mut bench = left.bench;
@@ -169,10 +154,10 @@ fn take_piece(
         let output = turn.output;
         state = answered(state, output, texts.len());
         bench = turn.bench;
-        at = behind(end, piece.len());
+        at = text::past(end, piece.len());
         end = lines::line_end(piece, at);
     }
-    state.filled = put(line, state.filled, &piece[at..]);
+    state.filled = text::put(line, state.filled, &piece[at..]);
     Left {
         state: state,
         bench: bench,
@@ -188,7 +173,9 @@ fn answer_piece(
     out: &mut [u8],
     texts: &mut [u8],
 ) -> Left
-    requires { ⌜ mostText (now out) ≤ length (now texts) ⌝ }
+    requires { ⌜ (mostText (now out) ≤ length (now texts)) × (mostKept ≤ length (now line)) ⌝ }
+    ensures { λ r. ⌜ runOf (r .bench) (now (pool .exit)) (now (out .exit)) (now (texts .exit)) (r .state .waiting) ≡ written (afterLines (runOf (left .bench) (now (pool .entry)) (now (out .entry)) (now (texts .entry)) (left .state .waiting)) (linesIn (take (left .state .filled) (now (line .entry))) (now (piece .entry)))) ⌝ }
+    ensures { λ r. ⌜ take (r .state .filled) (now (line .exit)) ≡ take (length (now (line .entry))) (keptAfter (take (left .state .filled) (now (line .entry))) (now (piece .entry))) ⌝ }
 {
     let after = take_piece(left, piece, line, pool, out, texts);
     let bench = after.bench;
@@ -207,7 +194,7 @@ fn read_piece(
     out: &mut [u8],
     texts: &mut [u8],
 ) -> Left
-    requires { ⌜ mostText (now out) ≤ length (now texts) ⌝ }
+    requires { ⌜ (mostText (now out) ≤ length (now texts)) × (mostKept ≤ length (now line)) ⌝ }
 {
     let got = libc::read(STDIN_FILENO, piece);
     if got <= 0 {
@@ -226,6 +213,7 @@ fn read_piece(
 // The last line may lack its newline; an empty one is none.
 fn end_input(left: Left, line: &[u8], pool: &mut [u8], out: &mut [u8], texts: &mut [u8]) -> State
     requires { ⌜ mostText (now out) ≤ length (now texts) ⌝ }
+    ensures { λ r. ⌜ waits (now (texts .exit)) (r .waiting) ≡ lastOf (runOf (left .bench) (now (pool .entry)) (now (out .entry)) (now (texts .entry)) (left .state .waiting)) (left .state .filled) (now (line .entry)) ⌝ }
 {
     let state = left.state;
     if state.filled == 0 {
@@ -233,7 +221,7 @@ fn end_input(left: Left, line: &[u8], pool: &mut [u8], out: &mut [u8], texts: &m
     }
     let ready = made_room(state, out, texts);
     let start = ready.waiting;
-    let last = front(line, ready.filled);
+    let last = text::front(line, ready.filled);
     let turn = answer(left.bench, last, pool, out, &mut texts[start..]);
     let output = turn.output;
     answered(ready, output, texts.len())
@@ -241,7 +229,7 @@ fn end_input(left: Left, line: &[u8], pool: &mut [u8], out: &mut [u8], texts: &m
 
 // A proved loop has to end, and nothing says that the input does. So the turns are counted down, from a number that no run uses up.
 fn serve(piece: &mut [u8], line: &mut [u8], pool: &mut [u8], out: &mut [u8], texts: &mut [u8])
-    requires { ⌜ mostText (now out) ≤ length (now texts) ⌝ }
+    requires { ⌜ (mostText (now out) ≤ length (now texts)) × (mostKept ≤ length (now line)) ⌝ }
 {
     let mut now = Left {
         state: State {

@@ -66,3 +66,16 @@ module _ (b s : List ℕ) (at : ℕ) {a n : ℕ} (h : a ≡ min at (length b)) (
       let m : a + n ≡ min (at + n) (length b) = omega (arith, h, k) in
       let d : drop n (drop a b) ≡ drop (at + n) b = drop-drop n a b ∙ (ap (λ (i : ℕ). drop i b) m ∙ drop-min (at + n) b) in
       rw (e, z, t, d, fits, fits-length)
+
+-- the front of a buffer when bytes were put behind its first e: these and the bytes, as far as the buffer goes
+pub put-front : (c s : List ℕ) (e : ℕ) {n : ℕ} → n ≡ min e (length c) + length (fitting c e s) → take n (putInto c e s) ≡ take (length c) (take e c ++ s)
+put-front c s e {n} h =
+    let p = take e c in
+    let f = fitting c e s in
+    let z : n ≡ length p + length f = omega (arith, h, length-take e c) in
+    let w : length c ≡ length p + (length c - e) = omega (arith, length-take e c) in
+    ap (λ (i : ℕ). take i (putInto c e s)) z
+    ∙ take-append-add p (f ++ drop (e + length f) c) (length f)
+    ∙ ap (λ (t : List ℕ). p ++ t) (take-append-seam f (drop (e + length f) c))
+    ∙ sym (take-append-add p s (length c - e))
+    ∙ sym (ap (λ (i : ℕ). take i (p ++ s)) w)

@@ -8,7 +8,7 @@ use native.Mathlib.Omega.{arith}
 use native.Mathlib.Nat.{pow-suc}
 use lib.Dec.{leb, ltb}
 use lib.ListN.{length, take, drop, length-take}
-use lib.Seq.{take-all, take-append-add, take-append-seam}
+use lib.Seq.{take-all, take-append-seam}
 use borrow.Author.Tests.{ltb-true, ltb-false, leb-true, leb-false, le-ltb, lt-ltb}
 use Rattle.numbers.specs.Bytes.{pick, laid}
 use Rattle.lines.specs.declared.Encoded.{Encoded}
@@ -20,7 +20,7 @@ use Rattle.lines.proofs.Digits.{width-one, width-step}
 use Rattle.text.specs.declared.Text.{Text}
 use Rattle.text.specs.Said.{said, Started, Appended, Marked}
 use Rattle.text.specs.Pieces.{fitting, putInto, countOf, checkFrom}
-use Rattle.text.proofs.Lists.{take-min}
+use Rattle.text.proofs.Lists.{take-min, put-front}
 use lib.Seq.{drop-cons}
 use lib.ListN.{getD, drop-of-length-le}
 
@@ -29,15 +29,8 @@ module _ (c : List ℕ) (l : length c ≡ 4096) (e : ℕ) where
   -- with s put behind them as far as it fits
   pub put-said : (s : List ℕ) {n : ℕ} → n ≡ min (min e (length c) + length (fitting c e s)) 4096 → take n (putInto c e s) ≡ take 4096 (take e c ++ s)
   put-said s {n} h =
-      let p = take e c in
-      let f = fitting c e s in
-      let z : n ≡ length p + length f = omega (arith, h, l, length-take e c, length-take (length c - e) s) in
-      let w : 4096 ≡ length p + (length c - e) = omega (arith, l, length-take e c) in
-      ap (λ (i : ℕ). take i (putInto c e s)) z
-      ∙ take-append-add p (f ++ drop (e + length f) c) (length f)
-      ∙ ap (λ (t : List ℕ). p ++ t) (take-append-seam f (drop (e + length f) c))
-      ∙ sym (take-append-add p s (length c - e))
-      ∙ sym (ap (λ (i : ℕ). take i (p ++ s)) w)
+      let z : n ≡ min e (length c) + length (fitting c e s) = omega (arith, h, l, length-take (length c - e) s) in
+      put-front c s e z ∙ ap (λ (i : ℕ). take i (take e c ++ s)) l
 
   -- with nothing more
   pub same-said : {n : ℕ} → n ≡ min e 4096 → take n c ≡ take 4096 (take e c ++ [])

@@ -20,7 +20,8 @@ same-length-3 c = search needs
 returns : tie.Need-returns
 returns c =
     let a = c .before .before .before .before .before .before .before .before .before .before .before .before .before .before .args in
-    turn-says (a .bench) (a .line .now) (a .pool .now) (a .out .now) (a .text .now) (c .before .before .before .before .before .before .before .before .before .before .before .before .before .before .pre) (c .before .before .before .before .before .before .line .ensures)
+    let e = c .before .before .before .before .before .before .line .ensures in
+    (e, turn-says (a .bench) (a .line .now) (a .pool .now) (a .out .now) (a .text .now) (c .before .before .before .before .before .before .before .before .before .before .before .before .before .before .pre) e)
 
 pub answer-spec : {M : Type 1} → statement M
 answer-spec = tie.close (tie.spec line-requires same-length same-length-2 same-length-3 returns)

@@ -1,15 +1,19 @@
--- `bench::take_piece` is safe and ends. No buffer changes its length, and each turn passes at least the newline that it found.
+-- `bench::take_piece` meets its contract: each turn answers the line up to the next newline, behind what was kept, and passes that newline. No buffer changes its length.
 -- Assumes nothing.
-use Prim.Native.Nat.{_≤_, _-_}
-use mathlib.Core.Path.{_≡_, _∙_}
-use lib.ListN.{length}
+use Prim.Native.Nat.{ℕ, _+_, _-_, _≤_}
+use mathlib.Core.Path.{_≡_, _∙_, sym, ap, refl}
+use mathlib.Core.List.{_++_}
+use lib.ListN.{length, take, drop}
 use native.Mathlib.Omega.{arith}
 use borrow.Author.Needs.{needs}
+use Rattle.lines.specs.Newline.{lineLength}
+use Rattle.bench.specs.Pieces.{runOf, afterLines, linesIn, keptAfter}
+use Rattle.bench.proofs.Pieces.{ends-at, line-taken, line-passed, kept-passed, lines-over, kept-over}
 use Rattle.bench.proofs.take_piece.Statement.{statement}
 use Rattle.bench.proofs.take_piece.Tie as tie
 
 abbrev Inv-loop : tie.InvT-loop
-Inv-loop piece line₀ pool₀ out₀ texts₀ state₀ bench₀ at₀ end₀ line pool out texts state bench at end = (at ≤ end) × (end ≤ length piece) × (length line ≡ length line₀) × (length pool ≡ length pool₀) × (length out ≡ length out₀) × (length texts ≡ length texts₀)
+Inv-loop piece line₀ pool₀ out₀ texts₀ state₀ bench₀ at₀ end₀ line pool out texts state bench at end = (at ≤ end) × (end ≤ length piece) × (length line ≡ length line₀) × (length pool ≡ length pool₀) × (length out ≡ length out₀) × (length texts ≡ length texts₀) × (end ≡ at + lineLength (drop at piece)) × (afterLines (runOf bench pool out texts (state .waiting)) (linesIn (take (state .filled) line) (drop at piece)) ≡ afterLines (runOf bench₀ pool₀ out₀ texts₀ (state₀ .waiting)) (linesIn (take (state₀ .filled) line₀) piece)) × (keptAfter (take (state .filled) line) (drop at piece) ≡ keptAfter (take (state₀ .filled) line₀) piece)
 
 abbrev μ-loop : tie.MeasureT-loop
 μ-loop piece line₀ pool₀ out₀ texts₀ state₀ bench₀ at₀ end₀ line pool out texts state bench at end = length piece - at
@@ -18,7 +22,7 @@ line-end-requires : tie.Need-line-end-requires Inv-loop μ-loop
 line-end-requires c κs = search needs
 
 loop-holds : tie.Need-loop-holds Inv-loop μ-loop
-loop-holds c = search needs
+loop-holds c = (omega arith, omega (arith, (c .line-end .ensures) .1 .1), refl, refl, refl, refl, ends-at ((c .before .before .before .before .before .before .before .before .args .piece) .now) 0 _ (omega arith) ((c .line-end .ensures) .0), refl, refl)
 
 made-room-requires : tie.Need-made-room-requires Inv-loop μ-loop
 made-room-requires c κs = search needs
@@ -47,20 +51,37 @@ answer-line-requires c κs = search needs
 answered-requires : tie.Need-answered-requires Inv-loop μ-loop
 answered-requires c κs = search needs
 
-behind-requires : tie.Need-behind-requires Inv-loop μ-loop
-behind-requires c κs = search needs
+past-requires : tie.Need-past-requires Inv-loop μ-loop
+past-requires c κs = search needs
 
 line-end-requires-2 : tie.Need-line-end-requires-2 Inv-loop μ-loop
 line-end-requires-2 c κs = search needs
 
 loop-less : tie.Need-loop-less Inv-loop μ-loop
-loop-less c = omega (arith, (c .before .behind .ensures), (c .before .before .before .before .before .before .before .before .before .before .before .before .before .before .before .before .before .before .before .before .before .loop-test .taken), (c .before .before .before .before .before .before .before .before .before .before .before .before .before .before .before .before .before .before .before .before .before .before .loop .inv .0))
+loop-less c = omega (arith, (c .before .past .ensures), (c .before .before .before .before .before .before .before .before .before .before .before .before .before .before .before .before .before .before .before .before .before .loop-test .taken), (c .before .before .before .before .before .before .before .before .before .before .before .before .before .before .before .before .before .before .before .before .before .before .loop .inv) .0)
 
 loop-again : tie.Need-loop-again Inv-loop μ-loop
 loop-again c =
-    let k = c .before .before .before .before .before .before .before .before .before .before .before .before .answer-line .kept in
-    let l = c .before .before .before .before .before .before .before .before .before .before .before .before .before .before .before .before .before .before .before .before .before .before .loop .inv in
-    (omega (arith, (c .before .behind .ensures), (c .line-end2 .ensures .1 .0)), omega (arith, (c .line-end2 .ensures .1 .1)), k .1 .1 .1 .0 ∙ l .2, k .1 .1 .1 .1 .0 ∙ l .3, k .1 .1 .1 .1 .1 .0 ∙ l .4, search (needs, k .1 .1 .1 .1 .1 .1 .0, l .5))
+    let p = (c .before .before .before .before .before .before .before .before .before .before .before .before .before .before .before .before .before .before .before .before .before .before .before .before .before .before .before .before .before .before .before .args .piece) .now in
+    let l = c .before .before .before .before .before .before .before .before .before .before .before .before .before .before .before .before .before .before .before .before .before .before .loop in
+    let t = c .before .before .before .before .before .before .before .before .before .before .before .before .answer-line in
+    let k = t .kept in
+    let m = c .before .before .before .before .before .before .before .before .before .before .before .before .before .before .before .before .before .before .made-room .ensures in
+    let said = c .before .before .before .answered .ensures in
+    let line′ = t .last .1 .1 .1 .0 in
+    let kept = take (l .state .filled) (l .line) in
+    let part = take (l .end - l .at) (drop (l .at) p) in
+    let run = line-taken (l .bench) (kept ++ part) (l .pool) (l .out) (l .texts) (l .state .waiting) (ap (λ (n : ℕ). take n (l .line) ++ part) (m .0 .1)) (m .0 .0) (omega (arith, m .1)) (k .1 .1 .1 .1 .1 .1 .0) (t .ensures .0) (said .1) in (
+      omega (arith, (c .before .past .ensures), (c .line-end2 .ensures) .1 .0),
+      omega (arith, (c .line-end2 .ensures) .1 .1),
+      k .1 .1 .1 .0 ∙ l .inv .2,
+      k .1 .1 .1 .1 .0 ∙ l .inv .3,
+      k .1 .1 .1 .1 .1 .0 ∙ l .inv .4,
+      search (needs, k .1 .1 .1 .1 .1 .1 .0, l .inv .5),
+      ends-at p _ _ (omega (arith, (c .before .past .ensures))) ((c .line-end2 .ensures) .0),
+      line-passed p (l .at) (l .end) (l .inv .6) (c .before .before .before .before .before .before .before .before .before .before .before .before .before .before .before .before .before .before .before .before .before .loop-test .taken) (c .before .past .ensures) line′ kept _ _ (said .0) run ∙ l .inv .7,
+      kept-passed p (l .at) (l .end) (l .inv .6) (c .before .before .before .before .before .before .before .before .before .before .before .before .before .before .before .before .before .before .before .before .before .loop-test .taken) (c .before .past .ensures) line′ kept (said .0) ∙ l .inv .8,
+    )
 
 sub-put : tie.Need-sub-put Inv-loop μ-loop
 sub-put c = search needs
@@ -87,7 +108,14 @@ same-length-4 : tie.Need-same-length-4 Inv-loop μ-loop
 same-length-4 c = search needs
 
 returns : tie.Need-returns Inv-loop μ-loop
-returns c = search needs
+returns c =
+    let p = (c .before .before .before .before .before .before .before .before .before .before .before .before .before .before .before .args .piece) .now in
+    let l = c .before .before .before .before .before .before .loop in (
+      sym (lines-over p (l .at) (l .end) (l .inv .6) (c .before .before .before .before .before .loop-test .left) (l .inv .1) (take (l .state .filled) (l .line)) (runOf (l .bench) (l .pool) (l .out) (l .texts) (l .state .waiting))) ∙ l .inv .7,
+      kept-over p (l .at) (l .end) (l .inv .6) (c .before .before .before .before .before .loop-test .left) (l .inv .1) (l .line) (l .state .filled) ((c .before .before .put .ensures) .0) ((c .before .before .put .ensures) .1 .1)
+          ∙ ap (λ (n : ℕ). take n (keptAfter (take (l .state .filled) (l .line)) (drop (l .at) p))) (l .inv .2)
+          ∙ ap (take (length ((c .before .before .before .before .before .before .before .before .before .before .before .before .before .before .before .args .line) .now))) (l .inv .8),
+    )
 
 pub take-piece-spec : {M : Type 1} → statement M
 take-piece-spec =
@@ -106,7 +134,7 @@ take-piece-spec =
     part-answer-line-end
     answer-line-requires
     answered-requires
-    behind-requires
+    past-requires
     line-end-requires-2
     loop-less
     loop-again

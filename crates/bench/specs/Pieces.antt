@@ -1,0 +1,83 @@
+-- The program over a piece of its input: the lines that end in it, what they leave, and what is kept of the line that goes on in the next piece.
+-- What the system reads and writes is in no contract of the kit: of that the definitions say nothing. Assumes nothing.
+use Prim.Native.Nat.{ℕ, _+_, _-_}
+use mathlib.Core.List.{List, [], _∷_, _++_}
+use lib.Dec.{eqb, leb}
+use lib.ListN.{length, take, drop}
+use Rattle.numbers.specs.Bytes.{pick}
+use Rattle.benchline.specs.declared.Bench.{Bench}
+use Rattle.benchline.specs.declared.Output.{Output}
+use Rattle.benchline.specs.declared.Output.the-variants.{Text, Full}
+use Rattle.benchline.specs.Line.{Left, mostText, lineOf}
+
+-- a line of 3,000 digits, and one character more to tell a longer one: what is behind that makes no difference
+abbrev pub mostKept : ℕ
+mostKept = 3001
+
+-- the line was answered: no line is lost
+abbrev pub IsText : Output → Type 0
+IsText (Text n) = Unit {0}
+IsText Full = ⊥
+
+abbrev pub sizeOf : Output → ℕ
+sizeOf (Text n) = n
+sizeOf Full = 0
+
+-- what goes from line to line: the bench, the link's buffers, and the texts that wait to be written, so many characters at the front of theirs
+pub record Run : Type 0 where
+  pub bench : Bench
+  pub pool : List ℕ
+  pub out : List ℕ
+  pub texts : List ℕ
+  pub waiting : ℕ
+
+abbrev pub runOf : Bench → List ℕ → List ℕ → List ℕ → ℕ → Run
+runOf bench pool out texts waiting = record { bench = bench; pool = pool; out = out; texts = texts; waiting = waiting }
+
+-- the texts are written, and none waits
+abbrev pub written : Run → Run
+written r = runOf (r .bench) (r .pool) (r .out) (r .texts) 0
+
+-- texts wait as long as the longest one fits behind them; else they are written first
+abbrev pub waitingBefore : List ℕ → List ℕ → ℕ → ℕ
+waitingBefore out texts waiting = pick (leb waiting (length texts - mostText out)) waiting 0
+
+-- what a line left, its text behind so many characters
+abbrev pub joined : ℕ → List ℕ → Left → Run
+joined waiting texts l = runOf (l .bench) (l .pool) (l .out) (take waiting texts ++ l .text) (waiting + sizeOf (l .output))
+
+abbrev pub answeredAt : ℕ → Run → List ℕ → Run
+answeredAt waiting r line =
+    joined waiting (r .texts) (lineOf (r .bench) line (r .pool) (r .out) (drop waiting (r .texts)))
+
+abbrev pub afterLine : Run → List ℕ → Run
+afterLine r line = answeredAt (waitingBefore (r .out) (r .texts) (r .waiting)) r line
+
+unfoldable pub afterLines : Run → List (List ℕ) → Run
+afterLines r [] = r
+afterLines r (line ∷ lines) = afterLines (afterLine r line) lines
+
+-- the lines that end in a piece, without their newlines; the first began with what was kept
+unfoldable pub linesIn : List ℕ → List ℕ → List (List ℕ)
+linesIn kept [] = []
+linesIn kept (b ∷ piece) = pick (eqb b 10) (kept ∷ linesIn [] piece) (linesIn (kept ++ b ∷ []) piece)
+
+-- what is kept then: all that stands behind the last newline
+unfoldable pub keptAfter : List ℕ → List ℕ → List ℕ
+keptAfter kept [] = kept
+keptAfter kept (b ∷ piece) = pick (eqb b 10) (keptAfter [] piece) (keptAfter (kept ++ b ∷ []) piece)
+
+-- the texts that wait at the end
+pub record Waits : Type 0 where
+  pub texts : List ℕ
+  pub waiting : ℕ
+
+abbrev pub waits : List ℕ → ℕ → Waits
+waits texts waiting = record { texts = texts; waiting = waiting }
+
+abbrev pub waitsIn : Run → Waits
+waitsIn r = waits (r .texts) (r .waiting)
+
+-- the last line may lack its newline; an empty one is none
+abbrev pub lastOf : Run → ℕ → List ℕ → Waits
+lastOf r filled line = waitsIn (pick (eqb filled 0) r (afterLine r (take filled line)))
