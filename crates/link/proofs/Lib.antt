@@ -1,4 +1,5 @@
 pub mod Lists
+pub mod Decisions
 pub mod Shown
 pub mod Table
 pub mod RowRules
