@@ -32,11 +32,12 @@ use Rattle.link.specs.Book.{Request, Command, call, Ask, single, first, 
 use Rattle.link.specs.Claim.{State, stateAfter, eventOf, isOpen}
 use Rattle.link.specs.Pages.{noteOf, notesFrom, pageOf, pageIf, pages, Sane}
 use Rattle.link.proofs.Table.{index-below, missing-set}
+use Rattle.link.proofs.Decisions.{both-by, decided}
 use Rattle.link.proofs.OpenRows.{open-facts}
 use Rattle.link.proofs.Others.{after-id, applied-leaves, entered-leaves}
 use Rattle.link.proofs.Opens.{lowest-same, entered, admitted-index}
-use Rattle.link.proofs.Deliveries.{both-by, page-of, is-open}
-use Rattle.link.proofs.PageAfter.{closed-page, missing-closed, decision-tells}
+use Rattle.link.proofs.Deliveries.{page-of, is-open}
+use Rattle.link.proofs.PageAfter.{closed-page, missing-closed, tells}
 
 -- the book with a page, at each id
 written-at : (b c : Book) (i : ℕ) (p : Option Page) → p ≡ c i → ((j : ℕ) → (i ≡ j → ⊥) → b j ≡ c j) → (j : ℕ) → written b i p j ≡ c j
@@ -167,7 +168,8 @@ module _ (s : State) (k : Sane s) where
         let r = open-facts s i k o in
         written-at (pages s) (pages (after (done i n q h (e .consumed) payload (r .mine) act))) i _
         (ap (λ (p : Option Page). pageAfterIf p (askOf h payload) (done i n q h (e .consumed) payload (r .mine) act .answer)) (page-of s i o)
-        ∙ decision-tells s i n k refl (r .below) (r .some-id) (r .mine) q h (e .consumed) payload (payload-length (q .input) h e f) (r .five) (r .fits) (r .room) (length (q .out)))
+        ∙ tells s i n k refl (r .below) (r .some-id) (r .mine) q h (e .consumed) payload (payload-length (q .input) h e f) (r .five) (r .fits) (r .room)
+        (decided (s .link) n h payload (length (q .out))))
         (others-kept i n q h (e .consumed) payload (r .mine) act)
 
     frame-tells : (h : Header) (e : Extent) → readOf (q .input) ≡ reading.Frame h e

@@ -111,7 +111,7 @@ module _ (l : Link) (i : ℕ) (h : Header) (payload : List ℕ) where
     stops : (placeOf (h .service .0) ≡ 1 → ⊥) → Decided (end (placeOf (h .service .0))) Stop
     closes : placeOf (h .service .0) ≡ 1 → Decided (end (placeOf (h .service .0))) Close
     ends-not : {named : Bool} → Decided (end (placeOf (h .service .0))) (NoEnd named)
-    hands : In → Decided (single payload) Single
+    hands-over : In → Decided (single payload) Single
     claims : {total count : ℕ} → In → (h .kind ≡ 0 → ⊥) → totalsFit total count ≡ true → m .live ≡ false → heldOf r + needOf total ≤ r .cap
         → (sharesIn (l .rows) - shareOf r) + max (heldOf r + needOf total) (r .guarantee) ≤ 256 → Decided (first place (h .message .0) total count) (Claim total count)
     drops : {n : ℕ} → (n ≡ 24) ⊎ (n ≡ 25) → Continues h m → Decided (next place (h .message .0) payload) (Drop n)
@@ -120,7 +120,7 @@ module _ (l : Link) (i : ℕ) (h : Header) (payload : List ℕ) where
 
   single-decided : (room : ℕ) → In → Decided (single payload) (singleOf room h)
   unfolding singleOf
-  single-decided room q = unless-elim (Decided (single payload)) (leb (h .size) room) _ _ (λ _. refuses (omega arith)) (λ _. hands q)
+  single-decided room q = unless-elim (Decided (single payload)) (leb (h .size) room) _ _ (λ _. refuses (omega arith)) (λ _. hands-over q)
 
   first-decided : (total count : ℕ) → In → (h .kind ≡ 0 → ⊥) → Decided (first place (h .message .0) total count) (firstOf r (sharesIn (l .rows) - shareOf r) h total count)
   unfolding firstOf

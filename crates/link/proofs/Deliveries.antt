@@ -1,17 +1,17 @@
 -- What is due is delivered: by the frame's kind, the decision on it and what the book has of its message.
 -- Assumes nothing.
-use Prim.Native.Nat.{ℕ, zero, suc, _+_, _-_, _*_, _≤_, _<_, max}
+use Prim.Native.Nat.{ℕ, zero, suc, _+_, _-_, _*_, _≤_, _<_}
 use mathlib.Core.Path.{_≡_, refl, ap, _∙_, sym, subst}
-use mathlib.Core.Bool.{Bool, true, false, _&&_, _||_, not}
+use mathlib.Core.Bool.{Bool, true, false, _&&_, not}
 use mathlib.Core.Option.{Option, none, some}
 use mathlib.Core.List.{List, [], _∷_, _++_}
 use native.Mathlib.Omega.{arith}
 use lib.Dec.{T, eqb, ltb, leb}
 use lib.ListN.{length, getD, take, length-append}
 use lib.Seq.{length-take-le}
-use borrow.Author.Tests.{eqb-true, eqb-false, eq-eqb, ne-eqb}
+use borrow.Author.Tests.{eqb-true, eq-eqb, ne-eqb}
 use Rattle.numbers.specs.Bytes.{pick, part, laid}
-use Rattle.numbers.proofs.Choices.{and-both, either, unless-elim}
+use Rattle.numbers.proofs.Choices.{and-both, unless-elim}
 use Rattle.blocks.specs.Map.{heldBy as blocksOf}
 use Rattle.frame.specs.declared.Header.{Header}
 use Rattle.frame.specs.declared.Extent.{Extent}
@@ -22,21 +22,17 @@ use Rattle.frame.proofs.ThereAndBack.{payload-length}
 use Rattle.blocks.specs.Pool.{blockBytes, appended}
 use Rattle.blocks.proofs.Contents.{append-fits, bytes-length}
 use Rattle.session.specs.declared.Reassembly.{Reassembly}
-use Rattle.session.specs.declared.Row.{Row}
-use Rattle.session.specs.declared.Said.{Said}
 use Rattle.session.specs.declared.Act.{Act}
-use Rattle.session.specs.declared.Act.the-variants.{Refuse, Drop, Accept, Beat, Start, NoStart, Stop, Close, NoEnd, Claim, Append, Deliver}
 use Rattle.session.specs.Rows.{noRow, noReassembly, messageAt}
-use Rattle.session.specs.Rules.{barredBy}
-use Rattle.session.specs.Decide.{placeOf, needOf, heldBy, heldOf, firstOf, dueNumber, sized, nextFor, singleOf, startable, startOf, endable, hashOf, endOf, controlOf, contentOf}
-use Rattle.frame.specs.Message.{totalsFit}
+use Rattle.session.specs.Decide.{placeOf, needOf, heldBy, sized}
 use Rattle.link.specs.declared.Link.{Link}
 use Rattle.link.specs.declared.Grant.{Grant}
 use Rattle.link.specs.State.{indexOf, ownerOf, guardOf}
-use Rattle.link.specs.Call.{After, Wish, old, new, bad, wishOf, opens, admits, openingBy, saidOf, decisionOf, applied, frameOf, readingOf, callOf}
-use Rattle.link.specs.Book.{Request, Command, call, Ask, single, next, end, other, Seen, opening, within, askOf, seenIn, seenOf, isAccepted, Note, noNote, Page, dueFor, dueOn, dueIn, dueOf}
+use Rattle.link.specs.Call.{After, Wish, old, new, bad, wishOf, opens, admits, openingBy, decisionOf, applied, frameOf, readingOf, callOf}
+use Rattle.link.specs.Book.{Request, Command, call, Ask, end, Seen, opening, within, askOf, seenIn, seenOf, isAccepted, noNote, Page, dueFor, dueOn, dueIn, dueOf}
 use Rattle.link.specs.Claim.{State, eventOf, isOpen, isDelivery, DeliversDue}
 use Rattle.link.specs.Pages.{rowOf, noteOf, notesFrom, pageOf, pages, Sane}
+use Rattle.link.proofs.Decisions.{both-by, Decided, refuses, accepts, beats, starts, starts-not, stops, closes, ends-not, hands-over, claims, drops, appends, delivers, decided}
 use Rattle.link.proofs.OpenRows.{open-facts}
 use Rattle.link.proofs.RowRules.{Fits, place-below, or-then}
 
@@ -46,11 +42,6 @@ unfolding notesFrom
 notes-at s n from [] k h = absurd (omega arith)
 notes-at s n from (m ∷ ms) zero h = let z : from + 0 ≡ from = omega arith in rw z
 notes-at s n from (m ∷ ms) (suc k) h = let z : from + suc k ≡ suc from + k = omega arith in rw z (notes-at s n (suc from) ms k (omega arith))
-
--- a test that two choices share
-pub both-by : {A B : Type 0} (P : A → B → Type 0) (b : Bool) (x y : A) (u v : B) → (b ≡ true → P x u) → (b ≡ false → P y v) → P (pick b x y) (pick b u v)
-both-by P true x y u v f g = f refl
-both-by P false x y u v f g = g refl
 
 -- what a call owes for what is due
 abbrev pub Gives : Request → Option (List ℕ) → After → Type 0
@@ -99,31 +90,6 @@ module _ (s : State) (q : Request) (n : ℕ) (h : Header) (consumed : ℕ) (payl
   abbrev Owes : Ask → Act → Type 0
   Owes ask act = Gives q (dueOn (some (pageOf s n (getD (s .link .rows) n noRow))) ask) (done act)
 
-  control-quiet : (r : Row) (said : Said) → Quiet (done (controlOf r h said))
-  unfolding controlOf startOf endOf
-  control-quiet r said =
-      let P : Act → Type 0 = λ act. Quiet (done act) in
-      either P (eqb (h .info) 0x01) _ _ (λ _. unless-elim P (startable r (h .service .0) && (not (eqb (r .version) 5) || said .readable)) NoStart Start (λ _. refl) (λ _. refl)) λ _.
-      either P (eqb (h .info) 0x04) _ _
-      (λ _.
-      unless-elim P (endable r (h .service .0)) (NoEnd false) _ (λ _. refl) λ _.
-      unless-elim P (said .found && eqb (said .hash) (hashOf r (h .service .0))) (NoEnd (eqb (r .version) 5)) _ (λ _. refl) λ _.
-      either P (eqb (h .service .0) 0x07) Close Stop (λ _. refl) (λ _. refl)) λ _.
-      either P (eqb (h .info) 0x00) Beat Accept (λ _. refl) (λ _. refl)
-
-  first-quiet : (r : Row) (others total count : ℕ) → Quiet (done (firstOf r others h total count))
-  unfolding firstOf
-  first-quiet r others total count =
-      let P : Act → Type 0 = λ act. Quiet (done act) in
-      unless-elim P (totalsFit total count) (Refuse 18) _ (λ _. refl) λ _.
-      unless-elim P (not (messageAt r (placeOf (h .service .0)) .live)) (Refuse 19) _ (λ _. refl) λ _.
-      unless-elim P (leb (heldOf r + needOf total) (r .cap)) (Refuse 20) _ (λ _. refl) λ _.
-      unless-elim P (leb (others + max (heldOf r + needOf total) (r .guarantee)) 256) (Refuse 21) (Claim total count) (λ _. refl) (λ _. refl)
-
-  single-gives : (space : ℕ) → Owes (single payload) (singleOf space h)
-  unfolding singleOf
-  single-gives space = unless-elim (Owes (single payload)) (leb (h .size) space) _ _ (λ _ z. absurd z) (λ _ _. (refl, refl))
-
   -- a message's last frame: the bytes that were there and the payload are the whole message
   module _ (place : ℕ) (below : place < 5) (m : Reassembly) (is : messageAt (getD (s .link .rows) n noRow) place ≡ m) (live : m .live ≡ true) (last : m .missing ≡ h .size)
       (most : m .missing ≤ m .total) where
@@ -153,49 +119,38 @@ module _ (s : State) (q : Request) (n : ℕ) (h : Header) (consumed : ℕ) (payl
         = length-take-le (m .total - m .missing) (blockBytes (ownerOf n place) (s .link .owners) (s .pool)) (omega (arith, has-room)) in
         length-append (take (m .total - m .missing) (blockBytes (ownerOf n place) (s .link .owners) (s .pool))) payload ∙ omega arith
 
-  -- a consecutive frame delivers where it is its message's last
-  next-gives : (space : ℕ) → Owes (next (placeOf (h .service .0)) (h .message .0) payload) (nextFor (messageAt (getD (s .link .rows) n noRow) (placeOf (h .service .0))) space h)
-  unfolding nextFor
-  next-gives space =
-      let r : Row = getD (s .link .rows) n noRow in
-      let place : ℕ = placeOf (h .service .0) in
-      let below : place < 5 = place-below (h .service .0) in
-      let m : Reassembly = messageAt r place in
-      let id : ℕ = h .message .0 in
-      let f = fits place below in
-      let zero-on : 0 + place ≡ place = omega arith in
-      let note : getD (notesFrom s n 0 (r .messages)) place noNote ≡ noteOf s n place m = rw zero-on at (notes-at s n 0 (r .messages) place (omega (arith, five, below))) in
-      let P : Act → Type 0 = λ act. Gives q (dueFor (noteOf s n place m) id payload) (done act) in
-      subst (λ (x : Note). Gives q (dueFor x id payload) (done (nextFor m space h))) (sym note)
-      (unless-elim P (m .live) (Refuse 22) _ (λ _ z. absurd z) λ live.
-      unless-elim P (eqb (h .message .0) (m .id .0)) (Refuse 23) _ (λ _ z. absurd z) λ same.
-      unless-elim P (eqb (h .info) (dueNumber m)) (Drop 24) _ (λ _ z. absurd z) λ _.
-      unless-elim P (sized m (h .size)) (Drop 25) _ (λ _ z. absurd z) λ sizes.
-      let o = f .1 live in
-      let mine : id ≡ m .id .0 = eqb-true id (m .id .0) same in
-      unless-elim P (eqb (m .frames) 1) Append _
-      (λ more _.
-      subst (λ (d : Option (List ℕ)). DeliversDue d (record { command = call q; answer = done Append .answer; out = done Append .out }))
-      (sym (due-none s n place m id payload live mine (eqb-false (m .frames) 1 more) (o .some-frames) (o .frames-most))) refl) λ one.
-      let z : m .frames ≡ 1 = eqb-true (m .frames) 1 one in
-      let last : m .missing ≡ h .size = last-size m (h .size) sizes z in
-      unless-elim P (leb (m .total) space) (Refuse 11) Deliver (λ _ z. absurd z) λ _ _.
-      subst (λ (d : Option (List ℕ)). DeliversDue d (record { command = call q; answer = done Deliver .answer; out = done Deliver .out }))
-      (sym (due-whole s n place m id payload live mine z (o .frames-most)))
-      (sym (whole place below m refl live last (o .missing-most)), ap (λ (x : List ℕ). laid x (q .out)) (joined place below m refl live last (o .missing-most))))
+  -- the note at the frame's place
+  note-here : getD (notesFrom s n 0 (getD (s .link .rows) n noRow .messages)) (placeOf (h .service .0)) noNote
+      ≡ noteOf s n (placeOf (h .service .0)) (messageAt (getD (s .link .rows) n noRow) (placeOf (h .service .0)))
+  note-here =
+      let z : 0 + placeOf (h .service .0) ≡ placeOf (h .service .0) = omega arith in
+      rw z at (notes-at s n 0 (getD (s .link .rows) n noRow .messages) (placeOf (h .service .0)) (omega (arith, five, place-below (h .service .0))))
 
   -- every decision gives what is due
-  decision-gives : (space : ℕ) → Owes (askOf h payload) (decisionOf (s .link) n h payload space)
-  unfolding decisionOf askOf contentOf
-  decision-gives space =
-      let r : Row = getD (s .link .rows) n noRow in
-      let b : ℕ = barredBy (s .link .version .major) (s .link .mtu) r h in
-      unless-elim (Owes (askOf h payload)) (eqb b 0) (Refuse b) _ (λ _ z. absurd z) λ _.
-      both-by Owes (eqb (h .kind) 0) _ _ _ _
-      (λ _. either (λ (a : Ask). Owes a (controlOf r h (saidOf r payload))) (eqb (h .info) 0x04) (end (placeOf (h .service .0))) other
-      (λ _ _. control-quiet r (saidOf r payload)) (λ _ _. control-quiet r (saidOf r payload))) λ _.
-      both-by Owes (eqb (h .kind) 1) _ _ _ _ (λ _. single-gives space) λ _.
-      both-by Owes (eqb (h .kind) 2) _ _ _ _ (λ _ _. first-quiet r _ _ _) (λ _. next-gives space)
+  gives : {ask : Ask} {act : Act} → Decided (s .link) n h payload ask act → Owes ask act
+  gives (refuses b) = λ z. absurd z
+  gives accepts = λ _. refl
+  gives beats = λ _. refl
+  gives starts = λ _. refl
+  gives starts-not = λ _. refl
+  gives (stops d) = λ _. refl
+  gives (closes d) = λ _. refl
+  gives ends-not = λ _. refl
+  gives (hands-over p) = λ _. (refl, refl)
+  gives (claims p a b c d e) = λ _. refl
+  gives (drops d o) = λ z. absurd z
+  gives (appends c sizes more) =
+      let m : Reassembly = messageAt (getD (s .link .rows) n noRow) (placeOf (h .service .0)) in
+      let o = fits (placeOf (h .service .0)) (place-below (h .service .0)) .1 (c .live) in
+      λ _. rw (note-here, due-none s n (placeOf (h .service .0)) m (h .message .0) payload (c .live) (c .same) more (o .some-frames) (o .frames-most))
+  gives (delivers c sizes one) =
+      let place : ℕ = placeOf (h .service .0) in
+      let below : place < 5 = place-below (h .service .0) in
+      let m : Reassembly = messageAt (getD (s .link .rows) n noRow) place in
+      let o = fits place below .1 (c .live) in
+      let last : m .missing ≡ h .size = last-size m (h .size) sizes one in
+      λ _. rw (note-here, due-whole s n place m (h .message .0) payload (c .live) (c .same) one (o .frames-most))
+      (sym (whole place below m refl (c .live) last (o .missing-most)), ap (λ (x : List ℕ). laid x (q .out)) (joined place below m refl (c .live) last (o .missing-most)))
 
 -- the page of an open session
 pub page-of : (s : State) (i : ℕ) → isOpen s i ≡ true → pages s i ≡ some (pageOf s (indexOf i (s .link .rows)) (getD (s .link .rows) (indexOf i (s .link .rows)) noRow))
@@ -221,7 +176,7 @@ module _ (s : State) (q : Request) (k : Sane s) where
       subst (λ (p : Option Page). Gives q (dueOn p (askOf h payload))
       (applied (s .link) n (s .pool) (q .out) h (e .consumed) payload (q .grant) (decisionOf (s .link) n h payload (length (q .out)))))
       (sym (page-of s i o))
-      (decision-gives s q n h (e .consumed) payload k (payload-length (q .input) h e f) (r .five) (r .fits) (r .room) (length (q .out)))
+      (gives s q n h (e .consumed) payload k (payload-length (q .input) h e f) (r .five) (r .fits) (r .room) (decided (s .link) n h payload (length (q .out))))
 
   frame-gives : (h : Header) (e : Extent) → readOf (q .input) ≡ reading.Frame h e
       → Gives q (dueIn (pages s) (seenIn (q .input) (reading.Frame h e))) (frameOf (s .link) (s .pool) (q .input) (q .out) h e (q .grant))

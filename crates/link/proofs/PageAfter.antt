@@ -1,8 +1,9 @@
 -- The page of a session after a frame of it: what the book notes of the frame and its answer is what the row and its blocks then show.
 -- By the decision's cases, each of which sets one message at most.
 -- Assumes nothing.
-use Prim.Native.Nat.{ℕ, zero, suc, _+_, _-_, _*_, _≤_, _<_, max}
+use Prim.Native.Nat.{ℕ, zero, suc, _+_, _-_, _*_, _≤_, _<_}
 use mathlib.Core.Path.{_≡_, refl, ap, _∙_, sym, subst}
+use mathlib.Core.Logic.{_⊎_, ⊎-elim}
 use mathlib.Core.Bool.{Bool, true, false, _&&_, _||_, not}
 use mathlib.Core.Option.{Option, none, some}
 use mathlib.Core.List.{List, [], _∷_, _++_}
@@ -10,34 +11,31 @@ use native.Mathlib.Omega.{arith}
 use lib.Dec.{eqb, leb}
 use lib.ListN.{length, getD, set, length-set, take}
 use lib.Seq.{getD-set-same}
-use borrow.Author.Tests.{eqb-true, eqb-false, leb-true, eq-eqb, ne-eqb, lt-ltb, le-ltb}
-use Rattle.numbers.proofs.Choices.{and-both, either, unless-elim}
+use borrow.Author.Tests.{leb-true, eq-eqb, ne-eqb, lt-ltb, le-ltb}
+use Rattle.numbers.proofs.Choices.{and-both, either}
 use Rattle.frame.specs.declared.Header.{Header}
 use Rattle.frame.specs.declared.MessageId.{MessageId}
 use Rattle.frame.specs.declared.ServiceType.{ServiceType}
-use Rattle.frame.specs.Message.{totalsFit}
 use Rattle.blocks.specs.Map.{heldBy as blocksOf, claimed, released}
 use Rattle.blocks.specs.Pool.{blockBytes, appended}
 use Rattle.blocks.proofs.Contents.{append-fits, append-others, claim-bytes, release-bytes}
 use Rattle.session.specs.declared.Reassembly.{Reassembly}
 use Rattle.session.specs.declared.Running.{Running}
 use Rattle.session.specs.declared.Row.{Row}
-use Rattle.session.specs.declared.Said.{Said}
 use Rattle.session.specs.declared.Act.{Act}
-use Rattle.session.specs.declared.Act.the-variants.{Refuse, Drop, Accept, Beat, Start, NoStart, Stop, Close, NoEnd, Claim, Append, Deliver, Single}
+use Rattle.session.specs.declared.Act.the-variants.{Refuse, Drop, Claim, Append, Deliver}
 use Rattle.session.specs.Rows.{noRow, freeRow, noReassembly, messageAt, withMessages, withMessageAt, settledRow, withService, announced, shortened, ackedRow, droppedRow}
-use Rattle.session.specs.Rules.{barredBy}
-use Rattle.session.specs.Decide.{placeOf, needOf, heldBy, heldOf, firstOf, dueNumber, sized, nextFor, singleOf, startable, startOf, endable, hashOf, endOf, controlOf, contentOf, rowAfter}
+use Rattle.session.specs.Decide.{placeOf, needOf, heldBy, sized, rowAfter}
 use Rattle.link.specs.State.{indexOf, ownerOf, withRow, withOwners}
-use Rattle.link.specs.Call.{After, saidOf, decisionOf, applied}
-use Rattle.link.specs.Book.{Request, Ask, single, first, next, end, other, askOf, Note, noNote, Page, noteAt, withNote, isUnder, added, struck, pageAfter}
+use Rattle.link.specs.Call.{After, applied}
+use Rattle.link.specs.Book.{Request, Ask, single, first, next, end, other, Note, noNote, Page, noteAt, withNote, isUnder, added, struck, pageAfter}
 use Rattle.link.specs.Claim.{State, isOpen}
 use Rattle.link.specs.Pages.{rowOf, noteOf, notesFrom, pageOf, pageIf, pages, Sane}
 use Rattle.link.proofs.Shown.{rules-say}
-use Rattle.link.proofs.Table.{index-set-same, index-set-gone}
-use Rattle.link.proofs.RowRules.{OpenFits, Fits, place-below, barred-most}
-use Rattle.link.proofs.Table.{owner-some}
-use Rattle.link.proofs.Deliveries.{notes-at, both-by, need-holds}
+use Rattle.link.proofs.Table.{index-set-same, index-set-gone, owner-some}
+use Rattle.link.proofs.RowRules.{OpenFits, Fits, place-below}
+use Rattle.link.proofs.Decisions.{Continues, Decided, refuses, accepts, beats, starts, starts-not, stops, closes, ends-not, hands-over, claims, drops, appends, delivers}
+use Rattle.link.proofs.Deliveries.{notes-at, need-holds}
 
 -- ---- rows
 
@@ -150,22 +148,6 @@ module _ (p : Page) (place id : ℕ) (payload : List ℕ) (x : Note) (e : noteAt
   added-last : eqb (suc (x .came)) (x .count) ≡ true → added p place id payload ≡ withNote p place noNote
   unfolding added
   added-last f = rw (e, u, f)
-
-place-one : (service : ℕ) → eqb service 0x07 ≡ true → placeOf service ≡ 1
-unfolding placeOf
-place-one service e = let z : service ≡ 0x07 = eqb-true service 0x07 e in rw z
-
-place-other : (service : ℕ) → eqb service 0x07 ≡ false → placeOf service ≡ 1 → ⊥
-unfolding placeOf
-place-other service e =
-    let P : ℕ → Type 0 = λ p. p ≡ 1 → ⊥ in
-    either P (eqb service 0x00) 0 _ (λ _ z. omega arith) λ _.
-    rw e
-    (either P (eqb service 0x0A) 2 _ (λ _ z. omega arith) λ _.
-    either P (eqb service 0x0B) 3 4 (λ _ z. omega arith) (λ _ z. omega arith))
-
-pub never : _≡_ {A = Bool} true false → ⊥
-never e = let z : _≡_ {A = ℕ} 0 1 = cc in omega arith
 
 -- ---- the page of an open session: n its row's place, r the row
 
@@ -361,8 +343,10 @@ module _ (s : State) (i n : ℕ) (k : Sane s) (at : indexOf i (s .link .rows) �
         ∙ sym (dropped (appended (ownerOf n place) (m .total - m .missing) payload (s .link .owners) (s .pool)) (filled (m .total - m .missing)) (droppedRow r place) drop-shape)
 
     -- 24 and 25
-    drop-tells : (c : ℕ) → m .live ≡ true → h .message .0 ≡ m .id .0 → some (struck page place (h .message .0)) ≡ pages (after (Drop c)) i
-    drop-tells c live same = ap some (struck-is live same) ∙ sym (dropped (s .pool) (λ _ _. refl) (droppedRow r place) drop-shape)
+    drop-tells : (c : ℕ) → (c ≡ 24) ⊎ (c ≡ 25) → Continues h m → Tells (next place (h .message .0) payload) (Drop c)
+    drop-tells c d o =
+        let z : eqb c 24 || eqb c 25 ≡ true = ⊎-elim (λ e. rw e) (λ e. rw e) d in
+        rw z (ap some (struck-is (o .live) (o .same)) ∙ sym (dropped (s .pool) (λ _ _. refl) (droppedRow r place) drop-shape))
 
     -- refusals but 24 and 25 are not noted
     refuse-tells : (ask : Ask) (c : ℕ) → (c ≡ 24 → ⊥) → (c ≡ 25 → ⊥) → Tells ask (Refuse c)
@@ -372,74 +356,18 @@ module _ (s : State) (i n : ℕ) (k : Sane s) (at : indexOf i (s .link .rows) �
     refuse-tells (end p) c a b = sym open-page
     refuse-tells other c a b = sym open-page
 
-    -- ---- control frames
-
-    end-tells : (said : Said) → Tells (end place) (endOf r h said)
-    unfolding endOf
-    end-tells said =
-        let P : Act → Type 0 = Tells (end place) in
-        unless-elim P (endable r (h .service .0)) (NoEnd false) _ (λ _. sym open-page) λ _.
-        unless-elim P (said .found && eqb (said .hash) (hashOf r (h .service .0))) (NoEnd (eqb (r .version) 5)) _ (λ _. sym open-page) λ _.
-        either P (eqb (h .service .0) 0x07) Close Stop
-        (λ e. rw (eq-eqb place 1 (place-one (h .service .0) e)) (sym (gone-page (released (ownerOf n 0) (ownerOf n 4) (s .link .owners)) (s .pool))))
-        (λ e. rw (ne-eqb place 1 (place-other (h .service .0) e))
-        (sym (dropped (s .pool) (λ _ _. refl) _ (acked-shape r _ _ (service-shape r _ _ drop-shape (h .service) _)))))
-
-    other-tells : (said : Said) → eqb (h .info) 0x04 ≡ false → Tells other (controlOf r h said)
-    unfolding controlOf startOf
-    other-tells said e =
-        let P : Act → Type 0 = Tells other in
-        either P (eqb (h .info) 0x01) _ _
-        (λ _. unless-elim P (startable r (h .service .0) && (not (eqb (r .version) 5) || said .readable)) NoStart Start (λ _. sym open-page)
-        (λ _. sym (same-page _ (acked-shape r _ _ (service-shape r r _ (same-shape r) (h .service) _))))) λ _.
-        either P (eqb (h .info) 0x04) _ _ (λ f. absurd (never (sym f ∙ e))) λ _.
-        either P (eqb (h .info) 0x00) Beat Accept (λ _. sym open-page) (λ _. sym open-page)
-
-    control-end : (said : Said) → eqb (h .info) 0x04 ≡ true → controlOf r h said ≡ endOf r h said
-    unfolding controlOf
-    control-end said e =
-        let z : h .info ≡ 4 = eqb-true (h .info) 4 e in
-        rw (ne-eqb (h .info) 1 (λ u. omega arith), e)
-
-    -- ---- content
-
-    single-tells : (space : ℕ) → Tells (single payload) (singleOf space h)
-    unfolding singleOf
-    single-tells space =
-        unless-elim (Tells (single payload)) (leb (h .size) space) (Refuse 11) Single (λ _. sym open-page)
-        (λ _. sym (same-page _ (settled-shape r r _ (same-shape r) (h .version))))
-
-    first-tells : (others total count : ℕ) → Tells (first place (h .message .0) total count) (firstOf r others h total count)
-    unfolding firstOf
-    first-tells others total count =
-        let P : Act → Type 0 = Tells (first place (h .message .0) total count) in
-        unless-elim P (totalsFit total count) (Refuse 18) _ (λ _. sym open-page) λ _.
-        unless-elim P (not (m .live)) (Refuse 19) _ (λ _. sym open-page) λ _.
-        unless-elim P (leb (heldOf r + needOf total) (r .cap)) (Refuse 20) _ (λ _. sym open-page) λ _.
-        unless-elim P (leb (others + max (heldOf r + needOf total) (r .guarantee)) 256) (Refuse 21) (Claim total count) (λ _. sym open-page) (λ _. claim-tells total count)
-
-    next-tells : (space : ℕ) → Tells (next place (h .message .0) payload) (nextFor m space h)
-    unfolding nextFor
-    next-tells space =
-        let P : Act → Type 0 = Tells (next place (h .message .0) payload) in
-        let o = fits place (place-below (h .service .0)) in
-        unless-elim P (m .live) (Refuse 22) _ (λ _. sym open-page) λ live.
-        unless-elim P (eqb (h .message .0) (m .id .0)) (Refuse 23) _ (λ _. sym open-page) λ e.
-        let same : h .message .0 ≡ m .id .0 = eqb-true (h .message .0) (m .id .0) e in
-        unless-elim P (eqb (h .info) (dueNumber m)) (Drop 24) _ (λ _. drop-tells 24 live same) λ _.
-        unless-elim P (sized m (h .size)) (Drop 25) _ (λ _. drop-tells 25 live same) λ sizes.
-        unless-elim P (eqb (m .frames) 1) Append _ (λ more. append-tells live same sizes (eqb-false (m .frames) 1 more)) λ one.
-        unless-elim P (leb (m .total) space) (Refuse 11) Deliver (λ _. sym open-page) (λ _. deliver-tells live same (eqb-true (m .frames) 1 one))
-
     -- every decision is noted as it is
-    pub decision-tells : (space : ℕ) → Tells (askOf h payload) (decisionOf (s .link) n h payload space)
-    unfolding decisionOf askOf contentOf
-    decision-tells space =
-        let b : ℕ = barredBy (s .link .version .major) (s .link .mtu) r h in
-        unless-elim (Tells (askOf h payload)) (eqb b 0) (Refuse b) _
-        (λ _. let below : b ≤ 23 = barred-most (s .link .version .major) (s .link .mtu) r h in refuse-tells (askOf h payload) b (λ e. omega arith) (λ e. omega arith)) λ _.
-        both-by Tells (eqb (h .kind) 0) _ _ _ _
-        (λ _. either (λ (a : Ask). Tells a (controlOf r h (saidOf r payload))) (eqb (h .info) 0x04) (end place) other
-        (λ e. subst (Tells (end place)) (sym (control-end (saidOf r payload) e)) (end-tells (saidOf r payload))) (λ e. other-tells (saidOf r payload) e)) λ _.
-        both-by Tells (eqb (h .kind) 1) _ _ _ _ (λ _. single-tells space) λ _.
-        both-by Tells (eqb (h .kind) 2) _ _ _ _ (λ _. first-tells _ _ _) (λ _. next-tells space)
+    pub tells : {ask : Ask} {act : Act} → Decided (s .link) n h payload ask act → Tells ask act
+    tells {ask} (refuses {n = c} b) = refuse-tells ask c (λ e. omega arith) (λ e. omega arith)
+    tells accepts = sym open-page
+    tells beats = sym open-page
+    tells starts = sym (same-page _ (acked-shape r _ _ (service-shape r r _ (same-shape r) (h .service) _)))
+    tells starts-not = sym open-page
+    tells (stops d) = rw (ne-eqb place 1 d) (sym (dropped (s .pool) (λ _ _. refl) _ (acked-shape r _ _ (service-shape r _ _ drop-shape (h .service) _))))
+    tells (closes d) = rw (eq-eqb place 1 d) (sym (gone-page (released (ownerOf n 0) (ownerOf n 4) (s .link .owners)) (s .pool)))
+    tells ends-not = sym open-page
+    tells (hands-over p) = sym (same-page _ (settled-shape r r _ (same-shape r) (h .version)))
+    tells (claims p a b c d e) = claim-tells _ _
+    tells (drops d o) = drop-tells _ d o
+    tells (appends o sizes more) = append-tells (o .live) (o .same) sizes more
+    tells (delivers o sizes one) = deliver-tells (o .live) (o .same) one

@@ -1,40 +1,31 @@
 -- "A refusal changes no lent byte and no state (24 and 25 drop the one message they name)." By cases of the call's definition.
 -- Assumes nothing.
-use Prim.Native.Nat.{ℕ, _+_, _-_, _≤_, max}
+use Prim.Native.Nat.{ℕ, _-_, _≤_}
 use mathlib.Core.Path.{_≡_, refl}
-use mathlib.Core.Logic.{_⊎_, inl, inr}
-use mathlib.Core.Bool.{_&&_, _||_, not}
+use mathlib.Core.Logic.{inl, inr}
+use mathlib.Core.Bool.{_&&_, not}
 use mathlib.Core.List.{List}
 use native.Mathlib.Omega.{arith}
 use lib.Dec.{eqb, ltb, leb}
-use lib.ListN.{length, getD}
+use lib.ListN.{length}
 use Rattle.numbers.specs.Bytes.{part}
-use Rattle.numbers.specs.Numbers.{valueBe}
 use Rattle.numbers.proofs.Choices.{either, unless-elim}
 use Rattle.frame.specs.declared.Header.{Header}
 use Rattle.frame.specs.declared.Extent.{Extent}
 use Rattle.frame.specs.declared.Reading.{Reading}
 use Rattle.frame.specs.declared.Reading.the-variants as reading
-use Rattle.frame.specs.Message.{totalsFit}
 use Rattle.frame.specs.Read.{frontOf, readOf}
 use Rattle.frame.proofs.Laws.{fault-most}
 use Rattle.frame.proofs.Answers.{is-refused}
-use Rattle.session.specs.declared.Reassembly.{Reassembly}
-use Rattle.session.specs.declared.Row.{Row}
-use Rattle.session.specs.declared.Said.{Said}
 use Rattle.session.specs.declared.Act.{Act}
-use Rattle.session.specs.declared.Act.the-variants.{Refuse, Drop, Accept, Beat, Start, NoStart, Stop, Close, NoEnd, Claim, Append, Deliver, Single}
-use Rattle.session.specs.Rows.{noRow, messageAt}
-use Rattle.session.specs.Rules.{barredBy}
-use Rattle.session.specs.Decide.{placeOf, needOf, heldOf, shareOf, dueNumber, sized, firstOf, nextFor, singleOf, startable, startOf, endable, hashOf, endOf, controlOf, contentOf}
 use Rattle.link.specs.declared.Link.{Link}
 use Rattle.link.specs.declared.Grant.{Grant}
 use Rattle.link.specs.declared.Answer.the-variants as answer
-use Rattle.link.specs.State.{indexOf, sharesIn, guardOf}
-use Rattle.link.specs.Call.{After, Wish, old, new, bad, wishOf, opens, admits, openingBy, saidOf, decisionOf, applied, frameOf, readingOf, callOf}
+use Rattle.link.specs.State.{indexOf, guardOf}
+use Rattle.link.specs.Call.{After, Wish, old, new, bad, wishOf, opens, admits, openingBy, applied, frameOf, readingOf, callOf}
 use Rattle.link.specs.Refusal.{KeepsOn, RefusalKeeps}
 use Rattle.link.specs.Book.{Ask}
-use Rattle.link.proofs.Decisions.{Decided, refuses, accepts, beats, starts, starts-not, stops, closes, ends-not, hands, claims, drops, appends, delivers, decided}
+use Rattle.link.proofs.Decisions.{Decided, refuses, accepts, beats, starts, starts-not, stops, closes, ends-not, hands-over, claims, drops, appends, delivers, decided}
 
 module _ (l : Link) (p s o : List ℕ) where
   abbrev Keeps : After → Type 0
@@ -54,7 +45,7 @@ module _ (l : Link) (p s o : List ℕ) where
   applied-keeps h e f payload g (stops d) = tt
   applied-keeps h e f payload g (closes d) = tt
   applied-keeps h e f payload g ends-not = tt
-  applied-keeps h e f payload g (hands q) = tt
+  applied-keeps h e f payload g (hands-over q) = tt
   applied-keeps h e f payload g (claims q n a b c d) = tt
   applied-keeps h e f payload g (appends c a b) = tt
   applied-keeps h e f payload g (delivers c a b) = tt

@@ -3,7 +3,7 @@
 -- Assumes nothing.
 use Prim.Native.Nat.{ℕ, _-_, _<_}
 use mathlib.Core.Path.{_≡_, refl, ap, _∙_, sym, subst}
-use mathlib.Core.Bool.{Bool, true, false, _&&_, not}
+use mathlib.Core.Bool.{Bool, true, false, true≢false, _&&_, not}
 use mathlib.Core.Option.{Option, none, some}
 use mathlib.Core.List.{List}
 use native.Mathlib.Omega.{arith}
@@ -33,7 +33,7 @@ use Rattle.link.proofs.Shown.{shown}
 use Rattle.link.proofs.Table.{index-row}
 use Rattle.link.proofs.Holdings.{open-index}
 use Rattle.link.proofs.Others.{row-open, with-id, settled-id, service-id}
-use Rattle.link.proofs.PageAfter.{never, stored-row, gone-page}
+use Rattle.link.proofs.PageAfter.{stored-row, gone-page}
 use Rattle.link.proofs.BookAfter.{told}
 use Rattle.link.proofs.Settings.{settings}
 use Rattle.link.proofs.Answers.{row-is, two-unless, three-by, guard-is, open-test, opens-zero, decided-alike, named, same-answer}
@@ -49,13 +49,13 @@ stays-there p (next place id x) a i e = refl
 stays-there p (end place) a i e = go (isAck a) (eqb place 1) _ p e
   where
     go : (b c : Bool) (x y : Page) → b && c ≡ false → there (pick b (pick c none (some x)) (some y)) ≡ true
-    go true true x y f = absurd (never f)
+    go true true x y f = absurd (true≢false f)
     go true false x y f = refl
     go false c x y f = refl
 stays-there p other a i e = refl
 
 if-there : (o : Option Page) (ask : Ask) (a : Answer) (i : ℕ) → there o ≡ true → isAck a && endsRpc (within i ask) ≡ false → there (pageAfterIf o ask a) ≡ true
-if-there none ask a i t e = absurd (never (sym t))
+if-there none ask a i t e = absurd (true≢false (sym t))
 if-there (some p) ask a i t e = stays-there p ask a i e
 
 -- the session stays in the book
@@ -93,7 +93,7 @@ module _ (s : State) (i n : ℕ) (k : Sane s) (at : indexOf i (s .link .rows) �
   row-after Start t = stored-row s i n k at below some-id mine _ _ _ (service-id r (h .service) _)
   row-after NoStart t = same
   row-after Stop t = stored-row s i n k at below some-id mine _ _ _ (service-id _ (h .service) _ ∙ with-id r _ _)
-  row-after Close t = absurd (never (sym (sym (ap there (gone-page s i n k at below some-id mine _ _)) ∙ t)))
+  row-after Close t = absurd (true≢false (sym (sym (ap there (gone-page s i n k at below some-id mine _ _)) ∙ t)))
   row-after (NoEnd b) t = same
   row-after (Claim total count) t = stored-row s i n k at below some-id mine _ _ _ (settled-id _ (h .version) ∙ with-id r _ _)
   row-after Append t = stored-row s i n k at below some-id mine _ _ _ (with-id r _ _)
