@@ -1,4 +1,5 @@
 pub mod Lists
+pub mod Each
 pub mod Decisions
 pub mod Shown
 pub mod Table

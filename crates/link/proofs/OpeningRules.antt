@@ -22,7 +22,7 @@ use Rattle.link.specs.State.{all, allFrom, indexOf, ownerOf, sharesIn, d
 use Rattle.link.specs.Call.{admits}
 use Rattle.link.specs.Pages.{FiveEach}
 use Rattle.link.proofs.RowRules.{all-at, blocks-say, say-blocks, held-idle, held-none, rules-of, opened-facts}
-use Rattle.link.proofs.Table.{index-row, shares-set, distinct-set-new, lowest-of-eight, lowest-between, opened-held}
+use Rattle.link.proofs.Table.{index-row, shares-set, index-missing, distinct-set, lowest-of-eight, lowest-between, opened-held}
 use Rattle.link.proofs.TableRules.{rows-set}
 use Rattle.link.proofs.Holdings.{five-at, row-fits-at}
 
@@ -79,6 +79,6 @@ opened-rules l g v eight five e f w a =
     let none : heldOf r ≡ 0 = opened-held i (g .guarantee) (g .cap) v (g .hash) in
     let sum : sharesIn (set rs k r) + shareOf (getD rs k noRow) ≡ sharesIn rs + shareOf r = shares-set rs k r b in
     let within : sharesIn (set rs k r) ≤ 256 = omega arith in
-    and-yes (distinctIds (set rs k r)) _ (distinct-set-new rs k r (lowest-of-eight rs eight .unused) (p₁ .0))
+    and-yes (distinctIds (set rs k r)) _ (distinct-set rs k r (λ _ j c _. index-missing (i .0) rs (lowest-of-eight rs eight .unused) j c) (p₁ .0))
     (and-yes (allFrom 0 (rowFits major (l .owners)) (set rs k r)) _ (rows-set major (l .owners) (l .owners) rs k r b new (λ j h n t. t) (p₂ .0))
     (and-yes (leb (sharesIn (set rs k r)) 256) _ (le-leb (sharesIn (set rs k r)) 256 within) (p₃ .1)))

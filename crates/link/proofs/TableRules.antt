@@ -3,11 +3,11 @@
 use mathlib.Core.Path.{_≡_, refl, sym, ap, subst, _∙_}
 use Prim.Native.Nat.{ℕ, zero, suc, _+_, _-_, _*_, _≤_, _<_, max, min}
 use native.Mathlib.Omega.{arith}
-use mathlib.Core.Bool.{Bool, true, false, _&&_, _||_}
+use mathlib.Core.Bool.{true, _&&_}
 use mathlib.Core.List.{List, [], _∷_}
 use lib.Dec.{eqb, leb}
 use lib.ListN.{length, getD, set, length-set, getD-replicate}
-use borrow.Author.Tests.{eqb-true, eqb-false, eq-eqb, ne-eqb, leb-true, le-leb}
+use borrow.Author.Tests.{eqb-true, eq-eqb, ne-eqb, leb-true, le-leb}
 use Rattle.numbers.specs.Bytes.{pick}
 use Rattle.numbers.proofs.Choices.{and-yes, and-both}
 use Rattle.frame.specs.declared.Header.{Header}
@@ -20,14 +20,14 @@ use Rattle.blocks.specs.Map.{heldBy, heldByAll, freeIn, claimed, released, Outs
 use Rattle.blocks.proofs.Contents.{append-length}
 use Rattle.blocks.proofs.Counts.{claim-gives, claim-lowers, claim-leaves, claim-length, release-takes, release-leaves, release-one, release-raises, release-length}
 use Rattle.session.specs.Decide.{placeOf, needOf, heldBy as heldFor, heldIn, heldOf, shareOf, rowAfter}
-use Rattle.link.specs.State.{freeFits, roomFits, versionAllowed, unsettledFits, messageFits, allFrom, indexOf, sharesIn, distinctIds, ownerOf, blocksFit, rowFits, rulesHold, withRow, withOwners}
+use Rattle.link.specs.State.{freeFits, roomFits, versionAllowed, unsettledFits, messageFits, allFrom, sharesIn, distinctIds, ownerOf, blocksFit, rowFits, rulesHold, withRow, withOwners}
 use Rattle.link.specs.declared.Link.{Link}
 use Rattle.link.specs.declared.Grant.{Grant}
 use Rattle.link.specs.Call.{After, applied, decisionOf}
 use Rattle.frame.proofs.Laws.{Sound}
 use Rattle.link.specs.Pages.{FiveEach, Sane}
 use Rattle.link.proofs.Holdings.{five-at, row-fits-at}
-use Rattle.link.proofs.Table.{shares-set, share-below, five-set, owner-next, owner-some}
+use Rattle.link.proofs.Table.{distinct-one, distinct-set, shares-set, share-below, five-set, owner-next, owner-some}
 use Rattle.link.proofs.RowRules.{RowFacts, facts-of, decision-kept, place-below, from-make, set-each, RowKept, Outcome, after-shares, after-five, after-id, after-row-fits, blocks-say, say-blocks, blocks-kept, blocks-same, free-held, held-none}
 
 -- after a decision on a row, the sum is still within the pool
@@ -41,63 +41,6 @@ shares-after rs i major h hash act l w o =
     let e : sharesIn (set rs i after) + shareOf r ≡ sharesIn rs + shareOf after = shares-set rs i after l in
     let k : others + shareOf after ≤ 256 = after-shares major others r h hash act o (omega arith) in
     omega arith
-
--- ids
-abbrev Same : Row → Row → Type 0
-Same r a = (a .id .0 ≡ 0 → ⊥) → a .id .0 ≡ r .id .0
-
-absent : (j : ℕ) (a : Row) (rs : List Row) → indexOf j (a ∷ rs) ≡ suc (length rs) → (a .id .0 ≡ j → ⊥) × (indexOf j rs ≡ length rs)
-unfolding indexOf
-absent j a rs = by (eqb (a .id .0) j) (eqb-false (a .id .0) j)
-  where
-    by : (b : Bool) → (b ≡ false → a .id .0 ≡ j → ⊥) → pick b 0 (suc (indexOf j rs)) ≡ suc (length rs) → (a .id .0 ≡ j → ⊥) × (indexOf j rs ≡ length rs)
-    by true f e = absurd (omega arith)
-    by false f e = (f refl, omega arith)
-
-still-absent : (j : ℕ) (a : Row) (rs : List Row) → (a .id .0 ≡ j → ⊥) → indexOf j rs ≡ length rs → indexOf j (a ∷ rs) ≡ suc (length rs)
-unfolding indexOf
-still-absent j a rs n e = rw (ne-eqb (a .id .0) j n, e)
-
--- an id that no row has is in none after a row kept its id or lost it
-pub absent-set : (j : ℕ) (rs : List Row) (i : ℕ) (a : Row) → (j ≡ 0 → ⊥) → Same (getD rs i noRow) a → indexOf j rs ≡ length rs → indexOf j (set rs i a) ≡ length rs
-absent-set j [] i a n s e = e
-absent-set j (b ∷ rs) zero a n s e =
-    let p = absent j b rs e in
-    still-absent j a rs (λ z. p .0 (sym (s (λ y. n (sym z ∙ y))) ∙ z)) (p .1)
-absent-set j (b ∷ rs) (suc i) a n s e =
-    let p = absent j b rs e in
-    let q : indexOf j (set rs i a) ≡ length rs = absent-set j rs i a n s (p .1) in
-    let l : length (set rs i a) ≡ length rs = length-set rs i a in
-    rw l at (still-absent j b (set rs i a) (p .0) (q ∙ sym l))
-
-or-elim : (b c : Bool) → b || c ≡ true → (b ≡ false → c ≡ true)
-or-elim true c e f = cc
-or-elim false c e f = e
-
-elim-or : (b c : Bool) → (b ≡ false → c ≡ true) → b || c ≡ true
-elim-or true c f = refl
-elim-or false c f = f refl
-
-pub distinct-set : (rs : List Row) (i : ℕ) (a : Row) → Same (getD rs i noRow) a → distinctIds rs ≡ true → distinctIds (set rs i a) ≡ true
-unfolding distinctIds
-distinct-set [] i a s e = e
-distinct-set (b ∷ rs) zero a s e =
-    let p = and-both (eqb (b .id .0) 0 || eqb (indexOf (b .id .0) rs) (length rs)) (distinctIds rs) e in
-    and-yes (eqb (a .id .0) 0 || eqb (indexOf (a .id .0) rs) (length rs)) (distinctIds rs)
-    (elim-or (eqb (a .id .0) 0) (eqb (indexOf (a .id .0) rs) (length rs)) (λ t.
-    let n : a .id .0 ≡ 0 → ⊥ = eqb-false (a .id .0) 0 t in
-    let q : a .id .0 ≡ b .id .0 = s n in
-    subst (λ (x : ℕ). eqb (indexOf x rs) (length rs) ≡ true) (sym q)
-    (or-elim (eqb (b .id .0) 0) (eqb (indexOf (b .id .0) rs) (length rs)) (p .0) (ne-eqb (b .id .0) 0 (λ z. n (q ∙ z))))))
-    (p .1)
-distinct-set (b ∷ rs) (suc i) a s e =
-    let p = and-both (eqb (b .id .0) 0 || eqb (indexOf (b .id .0) rs) (length rs)) (distinctIds rs) e in
-    let l : length (set rs i a) ≡ length rs = length-set rs i a in
-    and-yes (eqb (b .id .0) 0 || eqb (indexOf (b .id .0) (set rs i a)) (length (set rs i a))) (distinctIds (set rs i a))
-    (elim-or (eqb (b .id .0) 0) (eqb (indexOf (b .id .0) (set rs i a)) (length (set rs i a))) (λ t.
-    let old : indexOf (b .id .0) rs ≡ length rs = eqb-true (indexOf (b .id .0) rs) (length rs) (or-elim (eqb (b .id .0) 0) (eqb (indexOf (b .id .0) rs) (length rs)) (p .0) t) in
-    eq-eqb (indexOf (b .id .0) (set rs i a)) (length (set rs i a)) (absent-set (b .id .0) rs i a (eqb-false (b .id .0) 0 t) s old ∙ sym l)))
-    (distinct-set rs i a s (p .1))
 
 -- every row's rule, where the map changed only for the row that was set
 pub rows-set : (major : ℕ) (owners owners′ : List ℕ) (rs : List Row) (i : ℕ) (a : Row) → i < length rs → rowFits major owners′ i a ≡ true
@@ -337,7 +280,7 @@ rules-after l i h hash act owners′ eight five b n e o m =
     let spare : freeIn owners′ + heldOf a ≡ freeIn (l .owners) + heldOf r = m .spare in
     let now : heldByAll 1 40 owners′ + freeIn owners′ ≡ 256 = omega arith in
     let within : sharesIn (set rs i a) ≤ 256 = shares-after rs i major h hash act b (leb-true (sharesIn rs) 256 (p₃ .0)) o in
-    and-yes (distinctIds (set rs i a)) _ (distinct-set rs i a (after-id major others r h hash act o) (p₁ .0))
+    and-yes (distinctIds (set rs i a)) _ (distinct-set rs i a (λ z j c d w. d (distinct-one rs j i (p₁ .0) c b (w ∙ after-id major others r h hash act o z) (λ y. z (sym w ∙ y)))) (p₁ .0))
     (and-yes (allFrom 0 (rowFits major owners′) (set rs i a)) _ rows′
     (and-yes (leb (sharesIn (set rs i a)) 256) _ (le-leb (sharesIn (set rs i a)) 256 within)
     (eq-eqb (heldByAll 1 40 owners′ + freeIn owners′) 256 now)))
