@@ -1,13 +1,13 @@
 -- Every call leads from a state within the rules to another one: by the cases of the call's definition, each from its own law.
 -- Assumes nothing.
 use mathlib.Core.Path.{_≡_, refl, sym, subst, _∙_}
-use Prim.Native.Nat.{ℕ, _-_, _≤_, _<_}
+use Prim.Native.Nat.{ℕ, _-_, _≤_}
 use native.Mathlib.Omega.{arith}
 use mathlib.Core.Bool.{Bool, true, false, not, _&&_}
 use mathlib.Core.List.{List, []}
 use lib.Dec.{eqb, ltb, leb}
 use lib.ListN.{length, length-set}
-use borrow.Author.Tests.{eqb-true, eqb-false, leb-true, ltb-true, not-true}
+use borrow.Author.Tests.{eqb-true, leb-true}
 use Rattle.numbers.specs.Bytes.{unless, part}
 use Rattle.numbers.proofs.Choices.{and-both, either, unless-elim}
 use Rattle.frame.specs.declared.Header.{Header}
@@ -28,10 +28,12 @@ use Rattle.link.specs.Call.{After, Wish, old, new, bad, wishOf, wishOfPa
 use Rattle.link.specs.Book.{Command, call}
 use Rattle.link.specs.Claim.{State, stateAfter}
 use Rattle.link.specs.Pages.{Sane}
-use Rattle.link.proofs.RowRules.{old-allowed, new-allowed}
-use Rattle.link.proofs.Table.{index-row, five-set}
+use Rattle.link.proofs.Decisions.{decided}
+use Rattle.link.proofs.RowFacts.{open-facts}
+use Rattle.link.proofs.Table.{five-set}
 use Rattle.link.proofs.TableRules.{session-sane}
-use Rattle.link.proofs.OpeningRules.{opened-rules}
+use Rattle.link.proofs.Shown.{is-open}
+use Rattle.link.proofs.OpeningRules.{old-allowed, new-allowed, opened-rules}
 
 abbrev SaneAfter : After → Type 0
 SaneAfter a = Sane (record { link = a .link; pool = a .pool })
@@ -78,10 +80,9 @@ module _ (l : Link) (p : List ℕ) (k : Sane (record { link = l; pool = p })) (o
       unless-elim SaneAfter (leb 128 (length o)) _ _ (λ _. k) λ _.
       either SaneAfter (opens h) _ _ (λ _. opening-sane (e .consumed) payload (wishOf (l .version .major) payload) refl) λ _.
       unless-elim SaneAfter (not (eqb i 0) && ltb (indexOf i (l .rows)) (length (l .rows))) _ _ (λ _. k) λ t.
-      let q = and-both (not (eqb i 0)) (ltb (indexOf i (l .rows)) (length (l .rows))) t in
-      let b : indexOf i (l .rows) < length (l .rows) = ltb-true (indexOf i (l .rows)) (length (l .rows)) (q .1) in
-      session-sane l (indexOf i (l .rows)) p o h (e .consumed) payload g (length o) k b
-      (λ z. eqb-false i 0 (not-true (eqb i 0) (q .0)) (sym (index-row i (l .rows) b) ∙ z)) sound
+      let n : ℕ = indexOf i (l .rows) in
+      let st : State = record { link = l; pool = p } in
+      session-sane st i n k (open-facts st i k (is-open st i t)) h (e .consumed) payload o g sound (decided l n h payload (length o))
 
   reading-sane : (s : List ℕ) (x : Reading) → readOf s ≡ x → SaneAfter (readingOf l p s o g x)
   reading-sane s (reading.Short n) e = k

@@ -33,10 +33,11 @@ use Rattle.link.specs.Claim.{State, stateAfter, eventOf, isOpen}
 use Rattle.link.specs.Pages.{noteOf, notesFrom, pageOf, pageIf, pages, Sane}
 use Rattle.link.proofs.Table.{index-below, missing-set}
 use Rattle.link.proofs.Decisions.{both-by, decided}
-use Rattle.link.proofs.OpenRows.{open-facts}
+use Rattle.link.proofs.RowFacts.{open-facts}
 use Rattle.link.proofs.Others.{after-id, applied-leaves, entered-leaves}
 use Rattle.link.proofs.Opens.{lowest-same, entered, admitted-index}
-use Rattle.link.proofs.Deliveries.{page-of, is-open}
+use Rattle.link.proofs.Deliveries.{page-of}
+use Rattle.link.proofs.Shown.{is-open}
 use Rattle.link.proofs.PageAfter.{closed-page, missing-closed, tells}
 
 -- the book with a page, at each id

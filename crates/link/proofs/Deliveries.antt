@@ -33,8 +33,9 @@ use Rattle.link.specs.Book.{Request, Command, call, Ask, end, Seen, open
 use Rattle.link.specs.Claim.{State, eventOf, isOpen, isDelivery, DeliversDue}
 use Rattle.link.specs.Pages.{rowOf, noteOf, notesFrom, pageOf, pages, Sane}
 use Rattle.link.proofs.Decisions.{both-by, Decided, refuses, accepts, beats, starts, starts-not, stops, closes, ends-not, hands-over, claims, drops, appends, delivers, decided}
-use Rattle.link.proofs.OpenRows.{open-facts}
-use Rattle.link.proofs.RowRules.{Fits, place-below, or-then}
+use Rattle.link.proofs.Shown.{is-open}
+use Rattle.link.proofs.RowFacts.{Fits, place-below, open-facts}
+use Rattle.link.proofs.Each.{or-then}
 
 -- the note at a place is read off the message there
 pub notes-at : (s : State) (n from : ℕ) (ms : List Reassembly) (k : ℕ) → k < length ms → getD (notesFrom s n from ms) k noNote ≡ noteOf s n (from + k) (getD ms k noReassembly)
@@ -156,10 +157,6 @@ module _ (s : State) (q : Request) (n : ℕ) (h : Header) (consumed : ℕ) (payl
 pub page-of : (s : State) (i : ℕ) → isOpen s i ≡ true → pages s i ≡ some (pageOf s (indexOf i (s .link .rows)) (getD (s .link .rows) (indexOf i (s .link .rows)) noRow))
 unfolding pages rowOf
 page-of s i e = rw e
-
-pub is-open : (s : State) (i : ℕ) → not (eqb i 0) && ltb (indexOf i (s .link .rows)) (length (s .link .rows)) ≡ true → isOpen s i ≡ true
-unfolding isOpen
-is-open s i e = e
 
 module _ (s : State) (q : Request) (k : Sane s) where
   -- a frame of a session's row

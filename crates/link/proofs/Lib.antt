@@ -3,6 +3,7 @@ pub mod Each
 pub mod Decisions
 pub mod Shown
 pub mod Table
+pub mod RowFacts
 pub mod RowRules
 pub mod TableRules
 pub mod OpeningRules
@@ -16,7 +17,6 @@ pub mod SameAfter
 pub mod Settings
 pub mod Answers
 pub mod Holdings
-pub mod OpenRows
 pub mod Created
 pub mod Arrival
 pub mod Demand

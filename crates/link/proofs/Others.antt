@@ -38,8 +38,8 @@ use Rattle.link.specs.Book.{Request, Command, call, names}
 use Rattle.link.specs.Claim.{State, stateAfter, isOpen}
 use Rattle.link.specs.Pages.{rowOf, noteOf, notesFrom, pageIf, pages, Sane}
 use Rattle.link.proofs.Holdings.{open-index, five-at}
-use Rattle.link.proofs.Table.{index-set-other, lowest-of-eight, index-row, owner-some}
-use Rattle.link.proofs.RowRules.{place-below}
+use Rattle.link.proofs.Table.{index-set-other, lowest-of-eight, index-row, owner-some, owner-apart, owner-outside}
+use Rattle.link.proofs.RowFacts.{place-below}
 
 -- no method of a row but its closing changes its id
 pub with-id : (r : Row) (place : ℕ) (m : Reassembly) → withMessageAt r place m .id .0 ≡ r .id .0
@@ -70,15 +70,6 @@ after-id r h hash (Claim total count) = inl (settled-id _ (h .version) ∙ with-
 after-id r h hash Append = inl (with-id r _ _)
 after-id r h hash Deliver = inl (with-id r _ _)
 after-id r h hash Single = inl (settled-id r (h .version))
-
--- owners of two rows differ, and none is free
-owner-other : (n m q place : ℕ) → (n ≡ m → ⊥) → q < 5 → place < 5 → ownerOf n q ≡ ownerOf m place → ⊥
-unfolding ownerOf
-owner-other n m q place d a b e = omega arith
-
-owner-outside : (n m q : ℕ) → (n ≡ m → ⊥) → q < 5 → ownerOf m 0 ≤ ownerOf n q → ownerOf n q ≤ ownerOf m 4 → ⊥
-unfolding ownerOf
-owner-outside n m q d a e f = omega arith
 
 -- pages that read the same bytes are the same
 module _ (s s′ : State) (n : ℕ)
@@ -157,7 +148,7 @@ module _ (s : State) (i : ℕ) (k : Sane s) (opened : isOpen s i ≡ true) where
     not-mine act e = ⊎-elim (λ a. x (sym a ∙ e)) (λ b. open-index s i opened .0 (sym e ∙ b)) (after-id (getD (s .link .rows) m noRow) h (g .hash) act)
 
     other-owner : (q : ℕ) → q < 5 → ownerOf (indexOf i (s .link .rows)) q ≡ ownerOf m (placeOf (h .service .0)) → ⊥
-    other-owner q b = owner-other (indexOf i (s .link .rows)) m q (placeOf (h .service .0)) (apart m x) b (place-below (h .service .0))
+    other-owner q b = owner-apart m (indexOf i (s .link .rows)) (placeOf (h .service .0)) q (place-below (h .service .0)) b (λ z. apart m x (z .0))
 
     freed : (pool : List ℕ) (q : ℕ) → q < 5
         → blockBytes (ownerOf (indexOf i (s .link .rows)) q) (released (ownerOf m (placeOf (h .service .0))) (ownerOf m (placeOf (h .service .0))) (s .link .owners)) pool
@@ -185,7 +176,7 @@ module _ (s : State) (i : ℕ) (k : Sane s) (opened : isOpen s i ≡ true) where
     applied-leaves Close =
         stored m _ _ (s .pool) x (not-mine Close) (λ q b.
         release-bytes (ownerOf m 0) (ownerOf m 4) (ownerOf (indexOf i (s .link .rows)) q) (s .link .owners) (s .pool)
-        (owner-some (indexOf i (s .link .rows)) q) (λ low high. owner-outside (indexOf i (s .link .rows)) m q (apart m x) b low high))
+        (owner-some (indexOf i (s .link .rows)) q) (owner-outside m (indexOf i (s .link .rows)) q b (apart m x)))
     applied-leaves (NoEnd named) = (refl, refl)
     applied-leaves (Claim total count) =
         stored m _ _ (s .pool) x (not-mine (Claim total count)) (λ q b.

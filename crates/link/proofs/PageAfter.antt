@@ -33,7 +33,7 @@ use Rattle.link.specs.Claim.{State, isOpen}
 use Rattle.link.specs.Pages.{rowOf, noteOf, notesFrom, pageOf, pageIf, pages, Sane}
 use Rattle.link.proofs.Shown.{rules-say}
 use Rattle.link.proofs.Table.{index-set-same, index-set-gone, owner-some}
-use Rattle.link.proofs.RowRules.{OpenFits, Fits, place-below}
+use Rattle.link.proofs.RowFacts.{OpenFits, Fits, place-below}
 use Rattle.link.proofs.Decisions.{Continues, Decided, refuses, accepts, beats, starts, starts-not, stops, closes, ends-not, hands-over, claims, drops, appends, delivers}
 use Rattle.link.proofs.Deliveries.{notes-at, need-holds}
 

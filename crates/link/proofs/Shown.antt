@@ -2,11 +2,11 @@
 -- Assumes nothing.
 use Prim.Native.Nat.{ℕ, _+_, _≤_}
 use mathlib.Core.Path.{_≡_, refl}
-use mathlib.Core.Bool.{Bool, true, false}
+use mathlib.Core.Bool.{Bool, true, false, _&&_, not}
 use mathlib.Core.Option.{none, some}
-use lib.Dec.{eqb, leb}
-use lib.ListN.{getD}
-use borrow.Author.Tests.{eqb-true, leb-true}
+use lib.Dec.{eqb, leb, ltb}
+use lib.ListN.{length, getD}
+use borrow.Author.Tests.{eqb-true, leb-true, eq-eqb, le-leb}
 use Rattle.numbers.specs.Bytes.{pick}
 use Rattle.numbers.proofs.Choices.{and-both}
 use Rattle.blocks.specs.Map.{heldByAll, freeIn}
@@ -38,6 +38,10 @@ rules-say l e =
       blocks = eqb-true (heldByAll 1 40 (l .owners) + freeIn (l .owners)) 256 (r .1);
     }
 
+pub say-rules : (l : Link) → Rules l → rulesHold l ≡ true
+unfolding rulesHold
+say-rules l g = rw (g .ids, g .rows, le-leb (sharesIn (l .rows)) 256 (g .shares), eq-eqb (heldByAll 1 40 (l .owners) + freeIn (l .owners)) 256 (g .blocks))
+
 -- "held and free blocks make 256"
 pub all-blocks : (s : State) → Sane s → heldByAll 1 40 (s .link .owners) + freeIn (s .link .owners) ≡ 256
 all-blocks s k = rules-say (s .link) (k .rules) .blocks
@@ -50,3 +54,8 @@ shown s i = byOpen (isOpen s i) (getD (s .link .rows) (indexOf i (s .link .rows)
     byOpen : (b : Bool) (r : Row) (n : ℕ) → b ≡ there (pageIf s n (pick b (some r) none))
     byOpen true r n = refl
     byOpen false r n = refl
+
+-- the test of a call whether a session is open
+pub is-open : (s : State) (i : ℕ) → not (eqb i 0) && ltb (indexOf i (s .link .rows)) (length (s .link .rows)) ≡ true → isOpen s i ≡ true
+unfolding isOpen
+is-open s i e = e

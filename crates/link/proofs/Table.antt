@@ -11,6 +11,7 @@ use lib.ListN.{length, getD, set, length-set}
 use borrow.Author.Tests.{eqb-true, eqb-false, eq-eqb, ne-eqb, lt-ltb, le-ltb}
 use Rattle.numbers.specs.Bytes.{pick}
 use Rattle.numbers.proofs.Choices.{and-yes, and-both, same-or-not, onTest}
+use Rattle.blocks.specs.Map.{Outside}
 use Rattle.session.specs.declared.Row.{Row}
 use Rattle.frame.specs.declared.SessionId.{SessionId}
 use Rattle.session.specs.Rows.{noRow, freeRow, openedRow}
@@ -327,3 +328,17 @@ owner-next i place = omega arith
 pub owner-some : (i place : ℕ) → ownerOf i place ≡ 0 → ⊥
 unfolding ownerOf
 owner-some i place e = omega arith
+
+-- owners of two rows or places differ
+pub owner-apart : (i k p q : ℕ) → p < 5 → q < 5 → ((k ≡ i) × (q ≡ p) → ⊥) → ownerOf k q ≢ ownerOf i p
+unfolding ownerOf
+owner-apart i k p q a b n e = let x : k ≡ i = omega arith in let y : q ≡ p = omega arith in n (x, y)
+
+-- a row's owners stand together, and no other row's among them
+pub owner-outside : (i k q : ℕ) → q < 5 → k ≢ i → Outside (ownerOf i 0) (ownerOf i 4) (ownerOf k q)
+unfolding ownerOf
+owner-outside i k q h n a b = n (omega arith)
+
+pub owner-inside : (i q : ℕ) → q < 5 → (ownerOf i 0 ≤ ownerOf i q) × (ownerOf i q ≤ ownerOf i 4) × (suc (ownerOf i 4) - ownerOf i 0 ≡ 5)
+unfolding ownerOf
+owner-inside i q h = (omega arith, omega arith, omega arith)
