@@ -3,7 +3,7 @@
 -- Assumes nothing.
 use Prim.Native.Nat.{ℕ, _+_, _-_, _≤_, _<_, max}
 use mathlib.Core.Path.{_≡_, refl, ap, ap₂, _∙_, sym, subst}
-use mathlib.Core.Bool.{Bool, true, false, _&&_, not}
+use mathlib.Core.Bool.{Bool, true, false, _&&_, and-true, not}
 use mathlib.Core.Option.{Option, none, some}
 use mathlib.Core.List.{List, []}
 use native.Mathlib.Omega.{arith}
@@ -39,22 +39,12 @@ use Rattle.link.specs.Reply.{replyBytes, startAck, startNak, endAck, end
 use Rattle.link.specs.Call.{After, opens, saidOf, decisionOf, applied, frameOf, readingOf, callOf}
 use Rattle.link.specs.Book.{Request, Command, call, Ask, single, first, next, end, other, Seen, opening, within, askOf, seenIn, seenOf, dueOn, names, Page, needsIn, reachesRoom, ModestOn, ModestIn}
 use Rattle.link.specs.Claim.{State, eventOf, isOpen, DeliversDue}
-use Rattle.link.specs.Pages.{rowOf, notesFrom, pageOf, pages, Sane}
-use Rattle.link.proofs.Shown.{rules-say}
+use Rattle.link.specs.Pages.{notesFrom, pageOf, pages, Sane}
 use Rattle.link.proofs.Table.{shares-modest}
-use Rattle.link.proofs.Deliveries.{Gives, row-gives, page-of}
+use Rattle.link.proofs.Deliveries.{Gives, row-gives}
 use Rattle.link.proofs.Holdings.{needs-held, open-index}
-use Rattle.link.proofs.Others.{row-open}
+use Rattle.link.proofs.Shown.{rules-say, row-open, row-is, page-of}
 use Rattle.link.proofs.Lists.{Alike}
-
--- the row that an open session's id leads to
-pub row-is : (s : State) (i : ℕ) (r : Row) → rowOf s i ≡ some r → getD (s .link .rows) (indexOf i (s .link .rows)) noRow ≡ r
-unfolding rowOf
-row-is s i r e = byOpen (isOpen s i) e
-  where
-    byOpen : (b : Bool) → pick b (some (getD (s .link .rows) (indexOf i (s .link .rows)) noRow)) none ≡ some r → getD (s .link .rows) (indexOf i (s .link .rows)) noRow ≡ r
-    byOpen true f = cc
-    byOpen false f = let z : _≡_ {A = ℕ} 0 1 = cc in absurd (omega arith)
 
 -- the decision, by what it knows of the link
 abbrev decide : ℕ → ℕ → Row → ℕ → Header → List ℕ → ℕ → Act
@@ -215,11 +205,7 @@ module _ (s₁ s₂ : State) (q : Request) (h : Header) (consumed : ℕ) (payloa
 -- in a state within the rules, 10 is refused for the offer alone
 pub guard-is : (s : State) (g : Grant) → Sane s → guardOf (s .link) (length (s .pool)) g ≡ grantFits g
 unfolding guardOf
-guard-is s g k = rw (k .pool, k .settings, k .rules) (and-true (grantFits g))
-  where
-    and-true : (b : Bool) → b && true ≡ b
-    and-true true = refl
-    and-true false = refl
+guard-is s g k = rw (k .pool, k .settings, k .rules, and-true)
 
 pub open-test : (s : State) (i : ℕ) → isOpen s i ≡ true → not (eqb i 0) && ltb (indexOf i (s .link .rows)) (length (s .link .rows)) ≡ true
 unfolding isOpen

@@ -45,8 +45,8 @@ use Rattle.link.specs.Book.{Request, Command, call, Ask, first, next, Se
 use Rattle.link.specs.Claim.{State, stepped, stateAfter, eventOf, endOf, isOpen, DeliversIt, DeliversDue}
 use Rattle.link.specs.Pages.{rowOf, notesFrom, pageOf, pages, Sane}
 use Rattle.link.specs.Arrival.{Fronts, Brings, Between, Cut, ArrivesWhole}
-use Rattle.link.proofs.Answers.{row-is, guard-is, open-test, opens-zero}
-use Rattle.link.proofs.Others.{row-open, with-id, settled-id, other-row, other-page}
+use Rattle.link.proofs.Answers.{guard-is, open-test, opens-zero}
+use Rattle.link.proofs.Others.{with-id, settled-id, other-row, other-page}
 use Rattle.link.proofs.RowFacts.{RowFacts, place-below, service-place, OpenFacts, open-facts}
 use Rattle.link.proofs.RowRules.{fits-settled}
 use Rattle.link.proofs.Each.{then-or}
@@ -55,7 +55,8 @@ use Rattle.link.proofs.PageAfter.{stored-row, added-on}
 use Rattle.link.proofs.BookAfter.{told}
 use Rattle.link.proofs.AllSane.{sane}
 use Rattle.link.proofs.Settings.{settings}
-use Rattle.link.proofs.Deliveries.{page-of, hands}
+use Rattle.link.proofs.Deliveries.{hands}
+use Rattle.link.proofs.Shown.{row-open, row-is, page-of}
 
 -- ---- numbers
 

@@ -36,9 +36,8 @@ use Rattle.link.proofs.Decisions.{both-by, decided}
 use Rattle.link.proofs.RowFacts.{open-facts}
 use Rattle.link.proofs.Others.{after-id, applied-leaves, entered-leaves}
 use Rattle.link.proofs.Opens.{lowest-same, entered, admitted-index}
-use Rattle.link.proofs.Deliveries.{page-of}
-use Rattle.link.proofs.Shown.{is-open}
-use Rattle.link.proofs.PageAfter.{closed-page, missing-closed, tells}
+use Rattle.link.proofs.Shown.{is-open, page-of, closed-page, missing-closed}
+use Rattle.link.proofs.PageAfter.{tells}
 
 -- the book with a page, at each id
 written-at : (b c : Book) (i : ℕ) (p : Option Page) → p ≡ c i → ((j : ℕ) → (i ≡ j → ⊥) → b j ≡ c j) → (j : ℕ) → written b i p j ≡ c j

@@ -31,9 +31,9 @@ use Rattle.link.specs.State.{indexOf, ownerOf, guardOf}
 use Rattle.link.specs.Call.{After, Wish, old, new, bad, wishOf, opens, admits, openingBy, decisionOf, applied, frameOf, readingOf, callOf}
 use Rattle.link.specs.Book.{Request, Command, call, Ask, end, Seen, opening, within, askOf, seenIn, seenOf, isAccepted, noNote, Page, dueFor, dueOn, dueIn, dueOf}
 use Rattle.link.specs.Claim.{State, eventOf, isOpen, isDelivery, DeliversDue}
-use Rattle.link.specs.Pages.{rowOf, noteOf, notesFrom, pageOf, pages, Sane}
+use Rattle.link.specs.Pages.{noteOf, notesFrom, pageOf, pages, Sane}
 use Rattle.link.proofs.Decisions.{both-by, Decided, refuses, accepts, beats, starts, starts-not, stops, closes, ends-not, hands-over, claims, drops, appends, delivers, decided}
-use Rattle.link.proofs.Shown.{is-open}
+use Rattle.link.proofs.Shown.{is-open, page-of}
 use Rattle.link.proofs.RowFacts.{Fits, place-below, open-facts}
 use Rattle.link.proofs.Each.{or-then}
 
@@ -152,11 +152,6 @@ module _ (s : State) (q : Request) (n : ℕ) (h : Header) (consumed : ℕ) (payl
       let last : m .missing ≡ h .size = last-size m (h .size) sizes one in
       λ _. rw (note-here, due-whole s n place m (h .message .0) payload (c .live) (c .same) one (o .frames-most))
       (sym (whole place below m refl (c .live) last (o .missing-most)), ap (λ (x : List ℕ). laid x (q .out)) (joined place below m refl (c .live) last (o .missing-most)))
-
--- the page of an open session
-pub page-of : (s : State) (i : ℕ) → isOpen s i ≡ true → pages s i ≡ some (pageOf s (indexOf i (s .link .rows)) (getD (s .link .rows) (indexOf i (s .link .rows)) noRow))
-unfolding pages rowOf
-page-of s i e = rw e
 
 module _ (s : State) (q : Request) (k : Sane s) where
   -- a frame of a session's row

@@ -2,13 +2,13 @@
 -- Assumes nothing.
 use Prim.Native.Nat.{ℕ, zero, suc, _≤_, _<_}
 use mathlib.Core.Path.{_≡_, refl, ap, _∙_, sym}
-use mathlib.Core.Bool.{Bool, true, false, _&&_, not}
-use mathlib.Core.Option.{none, some}
+use mathlib.Core.Bool.{Bool, true, false, true≢false, _&&_, not}
+use mathlib.Core.Option.{some}
 use mathlib.Core.List.{List, [], _∷_}
 use native.Mathlib.Omega.{arith}
 use lib.Dec.{eqb, ltb, leb}
 use lib.ListN.{length, getD}
-use borrow.Author.Tests.{eqb-true, leb-true, ltb-true, eq-eqb, ne-eqb}
+use borrow.Author.Tests.{eqb-true, leb-true, ltb-true, eq-eqb, ne-eqb, not-true}
 use Rattle.numbers.specs.Bytes.{pick}
 use Rattle.numbers.proofs.Choices.{and-both}
 use Rattle.blocks.specs.Map.{heldBy, heldByAll}
@@ -17,10 +17,10 @@ use Rattle.session.specs.declared.Row.{Row}
 use Rattle.session.specs.Rows.{noRow, noReassembly, messageAt}
 use Rattle.session.specs.Decide.{needOf, heldIn, heldOf, heldBy as heldFor}
 use Rattle.link.specs.State.{indexOf, ownerOf, allFrom, roomFits, versionAllowed, unsettledFits, messageFits, blocksFit, rowFits}
-use Rattle.link.specs.Book.{Note, Page, needsIn, needsOf}
+use Rattle.link.specs.Book.{there, Note, Page, needsIn, needsOf}
 use Rattle.link.specs.Claim.{State, isOpen, blocksOf}
-use Rattle.link.specs.Pages.{rowOf, noteOf, notesFrom, pageOf, pageIf, pages, FiveEach, Sane}
-use Rattle.link.proofs.Shown.{rules-say}
+use Rattle.link.specs.Pages.{noteOf, notesFrom, pageOf, pages, FiveEach, Sane}
+use Rattle.link.proofs.Shown.{rules-say, shown, page-of}
 use Rattle.link.proofs.Table.{index-row, owner-next}
 use Rattle.link.proofs.Each.{each-at, each-make}
 
@@ -79,23 +79,14 @@ needs-held s i place (m ∷ ms) = rw (note-need s i place m, needs-held s i (suc
 
 -- an open session's page is read off its row
 pub page-row : (s : State) (i : ℕ) (p : Page) → pages s i ≡ some p → (isOpen s i ≡ true) × (p ≡ pageOf s (indexOf i (s .link .rows)) (getD (s .link .rows) (indexOf i (s .link .rows)) noRow))
-unfolding pages rowOf
-page-row s i p e = byOpen (isOpen s i) (getD (s .link .rows) (indexOf i (s .link .rows)) noRow) (indexOf i (s .link .rows)) e
-  where
-    byOpen : (b : Bool) (r : Row) (n : ℕ) → pageIf s n (pick b (some r) none) ≡ some p → (b ≡ true) × (p ≡ pageOf s n r)
-    byOpen true r n q = (refl, cc)
-    byOpen false r n q = let z : _≡_ {A = ℕ} 0 1 = cc in absurd (omega arith)
+page-row s i p e = let o : isOpen s i ≡ true = shown s i ∙ ap there e in (o, cc (page-of s i o))
 
 -- an open session's row is in the table
 pub open-index : (s : State) (i : ℕ) → isOpen s i ≡ true → (i ≡ 0 → ⊥) × (indexOf i (s .link .rows) < length (s .link .rows))
 unfolding isOpen
 open-index s i e =
     let p = and-both (not (eqb i 0)) (ltb (indexOf i (s .link .rows)) (length (s .link .rows))) e in
-    ((λ z. not-zero (eqb i 0) (eq-eqb i 0 z) (p .0)), ltb-true (indexOf i (s .link .rows)) (length (s .link .rows)) (p .1))
-  where
-    not-zero : (b : Bool) → b ≡ true → not b ≡ true → ⊥
-    not-zero true f g = let z : _≡_ {A = ℕ} 0 1 = cc in omega arith
-    not-zero false f g = let z : _≡_ {A = ℕ} 0 1 = cc in omega arith
+    ((λ z. true≢false (sym (eq-eqb i 0 z) ∙ not-true (eqb i 0) (p .0))), ltb-true (indexOf i (s .link .rows)) (length (s .link .rows)) (p .1))
 
 -- an open row's rules
 pub record OpenRow (major i : ℕ) (owners : List ℕ) (r : Row) : Type 0 where

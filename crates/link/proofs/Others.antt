@@ -11,7 +11,7 @@ use lib.Dec.{T, eqb, ltb, leb}
 use lib.ListN.{length, getD, set, length-set}
 use lib.Seq.{getD-set-other}
 use borrow.Author.Tests.{ltb-true, lt-ltb, eq-eqb}
-use Rattle.numbers.specs.Bytes.{pick, part}
+use Rattle.numbers.specs.Bytes.{part}
 use Rattle.numbers.proofs.Choices.{and-both, either, unless-elim}
 use Rattle.frame.specs.declared.Header.{Header}
 use Rattle.frame.specs.declared.Extent.{Extent}
@@ -37,6 +37,7 @@ use Rattle.link.specs.Call.{After, Wish, old, new, bad, wishOf, opens, a
 use Rattle.link.specs.Book.{Request, Command, call, names}
 use Rattle.link.specs.Claim.{State, stateAfter, isOpen}
 use Rattle.link.specs.Pages.{rowOf, noteOf, notesFrom, pageIf, pages, Sane}
+use Rattle.link.proofs.Shown.{row-open, row-is}
 use Rattle.link.proofs.Holdings.{open-index, five-at}
 use Rattle.link.proofs.Table.{index-set-other, lowest-of-eight, index-row, owner-some, owner-apart, owner-outside}
 use Rattle.link.proofs.RowFacts.{place-below}
@@ -91,14 +92,9 @@ Leaves s i w =
 
 -- five places in the row of an open session
 row-five : (s : State) (i : ℕ) → Sane s → (r : Row) → rowOf s i ≡ some r → length (r .messages) ≡ 5
-unfolding rowOf
-row-five s i k r e = byOpen (isOpen s i) refl e
-  where
-    byOpen : (b : Bool) → isOpen s i ≡ b → pick b (some (getD (s .link .rows) (indexOf i (s .link .rows)) noRow)) none ≡ some r → length (r .messages) ≡ 5
-    byOpen true o f =
-        let z : getD (s .link .rows) (indexOf i (s .link .rows)) noRow ≡ r = cc in
-        subst (λ (x : Row). length (x .messages) ≡ 5) z (five-at (s .link .rows) (indexOf i (s .link .rows)) (k .five) (open-index s i o .1))
-    byOpen false o f = let z : _≡_ {A = ℕ} 0 1 = cc in absurd (omega arith)
+row-five s i k r e =
+    let n : ℕ = indexOf i (s .link .rows) in
+    subst (λ (x : Row). length (x .messages) ≡ 5) (row-is s i r e) (five-at (s .link .rows) n (k .five) (open-index s i (row-open s i r e) .1))
 
 -- rows that keep the session's place, and bytes that keep its blocks
 module _ (s : State) (i : ℕ) (l : Link) (p : List ℕ) (k : Sane s)
@@ -238,15 +234,6 @@ module _ (s : State) (i : ℕ) (k : Sane s) (opened : isOpen s i ≡ true) where
     call-leaves : T (not (names i (call q))) → Leaves s i (callOf (s .link) (s .pool) (q .input) (q .out) (q .grant))
     unfolding callOf
     call-leaves t = unless-elim (Leaves s i) (guardOf (s .link) (length (s .pool)) (q .grant)) _ _ (λ u. (refl, refl)) (λ u. reading-leaves t (readOf (q .input)) refl)
-
--- a session with a row is open
-pub row-open : (s : State) (i : ℕ) (r : Row) → rowOf s i ≡ some r → isOpen s i ≡ true
-unfolding rowOf
-row-open s i r e = byOpen (isOpen s i) e
-  where
-    byOpen : (b : Bool) → pick b (some (getD (s .link .rows) (indexOf i (s .link .rows)) noRow)) none ≡ some r → b ≡ true
-    byOpen true f = refl
-    byOpen false f = let z : _≡_ {A = ℕ} 0 1 = cc in absurd (omega arith)
 
 -- the two laws
 pub other-row : (s : State) (c : Command) (i : ℕ) (r : Row) → Sane s → rowOf s i ≡ some r → T (not (names i c)) → rowOf (stateAfter s c) i ≡ some r

@@ -4,14 +4,14 @@
 use Prim.Native.Nat.{ℕ, zero, suc, _+_, _-_, _*_, _≤_, _<_}
 use mathlib.Core.Path.{_≡_, refl, ap, _∙_, sym, subst}
 use mathlib.Core.Logic.{_⊎_, ⊎-elim}
-use mathlib.Core.Bool.{Bool, true, false, _&&_, _||_, not}
+use mathlib.Core.Bool.{Bool, true, false, _||_}
 use mathlib.Core.Option.{Option, none, some}
 use mathlib.Core.List.{List, [], _∷_, _++_}
 use native.Mathlib.Omega.{arith}
 use lib.Dec.{eqb, leb}
 use lib.ListN.{length, getD, set, length-set, take}
 use lib.Seq.{getD-set-same}
-use borrow.Author.Tests.{leb-true, eq-eqb, ne-eqb, lt-ltb, le-ltb}
+use borrow.Author.Tests.{leb-true, eq-eqb, ne-eqb, lt-ltb}
 use Rattle.numbers.proofs.Choices.{and-both, either}
 use Rattle.frame.specs.declared.Header.{Header}
 use Rattle.frame.specs.declared.MessageId.{MessageId}
@@ -31,7 +31,7 @@ use Rattle.link.specs.Call.{After, applied}
 use Rattle.link.specs.Book.{Request, Ask, single, first, next, end, other, Note, noNote, Page, noteAt, withNote, isUnder, added, struck, pageAfter}
 use Rattle.link.specs.Claim.{State, isOpen}
 use Rattle.link.specs.Pages.{rowOf, noteOf, notesFrom, pageOf, pageIf, pages, Sane}
-use Rattle.link.proofs.Shown.{rules-say}
+use Rattle.link.proofs.Shown.{rules-say, closed-page, missing-closed}
 use Rattle.link.proofs.Table.{index-set-same, index-set-gone, owner-some}
 use Rattle.link.proofs.RowFacts.{OpenFits, Fits, place-below}
 use Rattle.link.proofs.Decisions.{Continues, Decided, refuses, accepts, beats, starts, starts-not, stops, closes, ends-not, hands-over, claims, drops, appends, delivers}
@@ -107,24 +107,6 @@ module _ (s t : State) (n : ℕ) where
 no-note : (t : State) (n place : ℕ) → noteOf t n place noReassembly ≡ noNote
 unfolding noteOf
 no-note t n place = refl
-
--- ---- sessions that are not open
-
--- no page
-pub closed-page : (t : State) (i : ℕ) → isOpen t i ≡ false → pages t i ≡ none
-unfolding pages rowOf
-closed-page t i e = rw e
-
--- an id that no row has
-pub missing-closed : (t : State) (i : ℕ) → indexOf i (t .link .rows) ≡ length (t .link .rows) → isOpen t i ≡ false
-unfolding isOpen
-missing-closed t i e =
-    let n : ℕ = length (t .link .rows) in
-    rw (e, le-ltb n n (omega arith)) (and-no (not (eqb i 0)))
-  where
-    and-no : (b : Bool) → b && false ≡ false
-    and-no true = refl
-    and-no false = refl
 
 -- ---- small facts
 

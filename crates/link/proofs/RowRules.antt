@@ -142,9 +142,6 @@ module _ (major others p : ℕ) where
     here = refl;
   }
 
-  pub kept-same : (r : Row) → RowFacts major r → Kept r r 0 0
-  kept-same r f = kept-remade r (r .version) (r .next) (r .audio) (r .video) f (f .allowed) (λ z. z) (λ k h l e. e)
-
   kept-versioned : (r : Row) (v : ℕ) → RowFacts major r → versionAllowed major v ≡ true → 1 ≤ v → (eqb (r .version) 0 ≡ false → v ≡ r .version) → Kept r (versioned r v) 0 0
   unfolding isRunning
   kept-versioned r v f a q s =

@@ -29,14 +29,14 @@ use Rattle.link.specs.Call.{After, opens, decisionOf, applied, frameOf, 
 use Rattle.link.specs.Book.{Request, Command, call, Event, Ask, single, first, next, end, other, Seen, opening, within, nothing, askOf, seenIn, seenOf, isAck, Page, Book, there, pageAfter, pageAfterIf, noted, bookAfter, names, endsRpc, closes, shuts, ModestOn, ModestIn}
 use Rattle.link.specs.Claim.{State, stateAfter, eventOf, isOpen}
 use Rattle.link.specs.Pages.{rowOf, pages, Sane}
-use Rattle.link.proofs.Shown.{shown}
+use Rattle.link.proofs.Shown.{shown, row-open, row-is}
 use Rattle.link.proofs.Table.{index-row}
 use Rattle.link.proofs.Holdings.{open-index}
-use Rattle.link.proofs.Others.{row-open, with-id, settled-id, service-id}
+use Rattle.link.proofs.Others.{with-id, settled-id, service-id}
 use Rattle.link.proofs.PageAfter.{stored-row, gone-page}
 use Rattle.link.proofs.BookAfter.{told}
 use Rattle.link.proofs.Settings.{settings}
-use Rattle.link.proofs.Answers.{row-is, two-unless, three-by, guard-is, open-test, opens-zero, decided-alike, named, same-answer}
+use Rattle.link.proofs.Answers.{two-unless, three-by, guard-is, open-test, opens-zero, decided-alike, named, same-answer}
 use Rattle.link.proofs.Lists.{Alike}
 
 -- ---- the book at one session
