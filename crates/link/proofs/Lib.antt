@@ -3,6 +3,7 @@ pub mod Each
 pub mod Decisions
 pub mod Shown
 pub mod Table
+pub mod Calls
 pub mod RowFacts
 pub mod RowRules
 pub mod TableRules
