@@ -1,7 +1,7 @@
 -- A call, by its cases: what the book sees in its input, and what it leaves; for one state, and for two that agree on the session that it names. The
 -- definition's tests are walked here once; every law about one call goes by these cases.
 -- Assumes nothing.
-use Prim.Native.Nat.{ℕ, _-_, _≤_}
+use Prim.Native.Nat.{ℕ, _+_, _-_, _≤_, _<_}
 use mathlib.Core.Path.{_≡_, refl, sym, subst, _∙_}
 use mathlib.Core.Logic.{_⊎_, inl, inr}
 use mathlib.Core.Bool.{Bool, true, false, _&&_, and-true, not}
@@ -9,7 +9,7 @@ use mathlib.Core.List.{List, []}
 use native.Mathlib.Omega.{arith}
 use lib.Dec.{T, eqb, ltb, leb}
 use lib.ListN.{length, getD}
-use borrow.Author.Tests.{eqb-true, leb-true}
+use borrow.Author.Tests.{eqb-true, leb-true, ltb-true}
 use Rattle.numbers.specs.Bytes.{pick, unless, part}
 use Rattle.numbers.proofs.Choices.{and-both, unless-elim}
 use Rattle.frame.specs.declared.Header.{Header}
@@ -21,12 +21,13 @@ use Rattle.frame.proofs.Laws.{fault-most}
 use Rattle.frame.proofs.Answers.{is-refused, session-fourth}
 use Rattle.payload.specs.declared.version.Version.{Version}
 use Rattle.payload.specs.Walk.{payloadOf}
+use Rattle.session.specs.declared.Row.{Row}
 use Rattle.session.specs.Rows.{openedRow}
 use Rattle.link.specs.declared.Link.{Link}
 use Rattle.link.specs.declared.Grant.{Grant}
 use Rattle.link.specs.declared.Answer.{Answer}
 use Rattle.link.specs.declared.Answer.the-variants as answer
-use Rattle.link.specs.State.{indexOf, grantFits, guardOf, withRow, lowestFree}
+use Rattle.link.specs.State.{indexOf, sharesIn, grantFits, guardOf, withRow, lowestFree}
 use Rattle.link.specs.Call.{After, after, Wish, old, new, bad, wishOf, wishOfPayload, opens, admits, oldVersion, openingBy, decisionOf, applied, frameOf, readingOf, callOf}
 use Rattle.link.specs.Book.{Request, call, Seen, opening, within, nothing, askOf, seenIn, seenOf, names}
 use Rattle.link.specs.Claim.{State, stepped, isOpen}
@@ -47,6 +48,20 @@ new-five major payload v = by (eqb major 5) (eqb-true major 5)
     by true f q = f refl
     by false f q = let z : _≡_ {A = ℕ} 0 1 = cc in absurd (omega arith)
 
+-- the row of a new session, and the link with it
+abbrev pub newRow : Link → Grant → ℕ → Row
+newRow l g v = openedRow (record { 0 = lowestFree 255 1 (l .rows) }) (g .guarantee) (g .cap) v (g .hash)
+
+abbrev pub entered : Link → Grant → ℕ → Link
+entered l g v = withRow l (indexOf 0 (l .rows)) (newRow l g v)
+
+-- an opening that is admitted has a free row and room
+pub admitted : (rs : List Row) (g : Grant) → admits rs g ≡ true → (indexOf 0 rs < length rs) × (sharesIn rs + g .guarantee ≤ 256)
+unfolding admits
+admitted rs g e =
+    let u = and-both (ltb (indexOf 0 rs) (length rs)) (leb (sharesIn rs + g .guarantee) 256) e in
+    (ltb-true (indexOf 0 rs) (length rs) (u .0), leb-true (sharesIn rs + g .guarantee) 256 (u .1))
+
 module _ (l : Link) (p s o : List ℕ) (g : Grant) where
   abbrev payload : Extent → List ℕ
   payload e = part s (e .start) (e .end - e .start)
@@ -54,17 +69,13 @@ module _ (l : Link) (p s o : List ℕ) (g : Grant) where
   abbrev index : Header → ℕ
   index h = indexOf (h .session .0) (l .rows)
 
-  -- the link with a new session
-  abbrev pub entered : ℕ → Link
-  entered v = withRow l (indexOf 0 (l .rows)) (openedRow (record { 0 = lowestFree 255 1 (l .rows) }) (g .guarantee) (g .cap) v (g .hash))
-
   -- what is seen, and what the call leaves
   pub data Called : Seen → After → Type 0 where
     short : {n : ℕ} → Called nothing (after (answer.Short n) l p o)
     refused : {x : Seen} {n : ℕ} → n ≤ 23 → Called x (after (answer.Refused n) l p o)
     nacked : {c n : ℕ} {out : List ℕ} → Called opening (after (answer.Nacked c n) l p out)
     acked : {c n v : ℕ} {out : List ℕ} → guardOf l (length p) g ≡ true → admits (l .rows) g ≡ true
-        → (v ≡ oldVersion (l .version .major)) ⊎ ((v ≡ 5) × (l .version .major ≡ 5)) → Called opening (after (answer.Acked c n) (entered v) p out)
+        → (v ≡ oldVersion (l .version .major)) ⊎ ((v ≡ 5) × (l .version .major ≡ 5)) → Called opening (after (answer.Acked c n) (entered l g v) p out)
     in-row : (h : Header) (e : Extent) → readOf s ≡ reading.Frame h e → guardOf l (length p) g ≡ true → 128 ≤ length o
         → not (eqb (h .session .0) 0) && ltb (index h) (length (l .rows)) ≡ true
         → Called (within (h .session .0) (askOf h (payload e))) (applied l (index h) p o h (e .consumed) (payload e) g (decisionOf l (index h) h (payload e) (length o)))

@@ -70,6 +70,10 @@ pub row-open : (s : State) (i : ℕ) (r : Row) → rowOf s i ≡ some r → isOp
 unfolding rowOf
 row-open s i r e = picked (isOpen s i) _ r e .0
 
+pub open-row : (s : State) (i : ℕ) → isOpen s i ≡ true → rowOf s i ≡ some (getD (s .link .rows) (indexOf i (s .link .rows)) noRow)
+unfolding rowOf
+open-row s i e = rw e
+
 pub row-is : (s : State) (i : ℕ) (r : Row) → rowOf s i ≡ some r → getD (s .link .rows) (indexOf i (s .link .rows)) noRow ≡ r
 unfolding rowOf
 row-is s i r e = picked (isOpen s i) _ r e .1
