@@ -3,24 +3,22 @@
 -- Assumes nothing.
 use Prim.Native.Nat.{ℕ, _+_, _-_, _≤_, _<_, max}
 use mathlib.Core.Path.{_≡_, refl, ap, ap₂, _∙_, sym, subst}
-use mathlib.Core.Bool.{Bool, true, false, _&&_, and-true, not}
+use mathlib.Core.Bool.{Bool, true, false, _&&_, not}
 use mathlib.Core.Option.{Option, none, some}
 use mathlib.Core.List.{List, []}
 use native.Mathlib.Omega.{arith}
-use lib.Dec.{T, eqb, ltb, leb}
+use lib.Dec.{T, eqb, leb}
 use lib.ListN.{length, getD}
-use borrow.Author.Tests.{eqb-true, le-leb}
+use borrow.Author.Tests.{le-leb}
 use Rattle.numbers.specs.Bytes.{pick, unless, part, laid}
 use Rattle.numbers.specs.Numbers.{valueBe}
 use Rattle.numbers.proofs.Choices.{and-both, unless-elim}
 use Rattle.frame.specs.declared.Header.{Header}
 use Rattle.frame.specs.declared.ServiceType.{ServiceType}
 use Rattle.frame.specs.declared.Extent.{Extent}
-use Rattle.frame.specs.declared.Reading.{Reading}
 use Rattle.frame.specs.declared.Reading.the-variants as reading
 use Rattle.frame.specs.Read.{readOf}
 use Rattle.frame.specs.Message.{totalsFit}
-use Rattle.frame.proofs.Answers.{session-fourth}
 use Rattle.session.specs.declared.Row.{Row}
 use Rattle.session.specs.declared.Act.{Act}
 use Rattle.session.specs.declared.Act.the-variants.{Refuse, Drop, Accept, Beat, Start, NoStart, Stop, Close, NoEnd, Claim, Append, Deliver, Single}
@@ -31,18 +29,18 @@ use Rattle.payload.specs.Tags.{hashId}
 use Rattle.payload.specs.Reply.{nakPayload}
 use Rattle.session.specs.Decide.{placeOf, needOf, heldOf, shareOf, firstOf, nextOf, singleOf, controlOf, contentOf}
 use Rattle.link.specs.declared.Link.{Link}
-use Rattle.link.specs.declared.Grant.{Grant}
-use Rattle.link.specs.State.{indexOf, sharesIn, grantFits, guardOf}
+use Rattle.link.specs.State.{indexOf, sharesIn}
 use Rattle.link.specs.declared.Answer.{Answer}
 use Rattle.link.specs.declared.Answer.the-variants as answer
 use Rattle.link.specs.Reply.{replyBytes, startAck, startNak, endAck, endNak, beatAck, grantedPayload}
-use Rattle.link.specs.Call.{After, opens, saidOf, decisionOf, applied, frameOf, readingOf, callOf}
-use Rattle.link.specs.Book.{Request, Command, call, Ask, single, first, next, end, other, Seen, opening, within, askOf, seenIn, seenOf, dueOn, names, Page, needsIn, reachesRoom, ModestOn, ModestIn}
+use Rattle.link.specs.Call.{After, saidOf, decisionOf, applied}
+use Rattle.link.specs.Book.{Request, Command, call, Ask, single, first, next, end, other, Seen, within, askOf, dueOn, names, Page, needsIn, reachesRoom, ModestOn, ModestIn}
 use Rattle.link.specs.Claim.{State, eventOf, isOpen, DeliversDue}
 use Rattle.link.specs.Pages.{notesFrom, pageOf, pages, Sane}
 use Rattle.link.proofs.Table.{shares-modest}
 use Rattle.link.proofs.Deliveries.{Gives, row-gives}
 use Rattle.link.proofs.Holdings.{needs-held, open-index}
+use Rattle.link.proofs.Calls.{two-unless, three-by, two-calls}
 use Rattle.link.proofs.Shown.{rules-say, row-open, row-is, page-of}
 use Rattle.link.proofs.Lists.{Alike}
 
@@ -78,15 +76,6 @@ first-same r o₁ o₂ h total count f =
     go true true false g = refl
     go true false c g = refl
     go false b c g = refl
-
--- tests that two and three choices share
-pub two-unless : {A B : Type 0} (P : A → B → Type 0) (b : Bool) (x y : A) (u v : B) → (b ≡ false → P x u) → (b ≡ true → P y v) → P (unless b x y) (unless b u v)
-two-unless P true x y u v f g = g refl
-two-unless P false x y u v f g = f refl
-
-pub three-by : {A B C : Type 0} (P : A → B → C → Type 0) (b : Bool) (x y : A) (u v : B) (s t : C) → (b ≡ true → P x u s) → (b ≡ false → P y v t) → P (pick b x y) (pick b u v) (pick b s t)
-three-by P true x y u v s t f g = f refl
-three-by P false x y u v s t f g = g refl
 
 -- what two calls show alike
 abbrev Like : After → After → Type 0
@@ -202,24 +191,6 @@ module _ (s₁ s₂ : State) (q : Request) (h : Header) (consumed : ℕ) (payloa
         ∙ decide-agreed (s₂ .link .version .major) (s₂ .link .mtu) space (subst (λ (a : Act). ModestOn (some (pageOf s₂ n₂ r)) (within i (askOf h payload)) (done₂ a .answer)) d₂ m)
         ∙ sym d₂
 
--- in a state within the rules, 10 is refused for the offer alone
-pub guard-is : (s : State) (g : Grant) → Sane s → guardOf (s .link) (length (s .pool)) g ≡ grantFits g
-unfolding guardOf
-guard-is s g k = rw (k .pool, k .settings, k .rules, and-true)
-
-pub open-test : (s : State) (i : ℕ) → isOpen s i ≡ true → not (eqb i 0) && ltb (indexOf i (s .link .rows)) (length (s .link .rows)) ≡ true
-unfolding isOpen
-open-test s i e = e
-
--- an opening names session 0
-pub opens-zero : (h : Header) → opens h ≡ true → h .session .0 ≡ 0
-unfolding opens
-opens-zero h e =
-    let a = and-both (eqb (h .version) 1) _ e in
-    let b = and-both (eqb (h .kind) 0) _ (a .1) in
-    let c = and-both (eqb (h .service .0) 0x07) _ (b .1) in
-    eqb-true (h .session .0) 0 (and-both (eqb (h .info) 0x01) (eqb (h .session .0) 0) (c .1) .1)
-
 module _ (s₁ s₂ : State) (q : Request) (k₁ : Sane s₁) (k₂ : Sane s₂) where
   abbrev Alikely : ℕ → Seen → After → After → Type 0
   Alikely i seen w₁ w₂ = ModestOn (pages s₂ i) seen (w₂ .answer) → Like w₁ w₂
@@ -275,48 +246,9 @@ module _ (s₁ s₂ : State) (q : Request) (k₁ : Sane s₁) (k₂ : Sane s₂)
       subst (λ (x : Act). Like (after₁ x) (after₂ d₂)) (sym same)
       (acts-like s₁ s₂ q h (e .consumed) payload n₁ n₂ r e₁ e₂ (a .version) (a .mtu) due d₂ (subst (λ (x : Act). Gives q due (after₁ x)) same g₁) g₂)
 
-  frame-like : (h : Header) (e : Extent) → readOf (q .input) ≡ reading.Frame h e → Alike (h .session .0) s₁ s₂
-      → Alikely (h .session .0) (seenIn (q .input) (reading.Frame h e))
-      (frameOf (s₁ .link) (s₁ .pool) (q .input) (q .out) h e (q .grant)) (frameOf (s₂ .link) (s₂ .pool) (q .input) (q .out) h e (q .grant))
-  unfolding frameOf
-  frame-like h e f a =
-      let i : ℕ = h .session .0 in
-      let payload : List ℕ = part (q .input) (e .start) (e .end - e .start) in
-      let o₁ : isOpen s₁ i ≡ true = row-open s₁ i (a .the-row) (a .row₁) in
-      let o₂ : isOpen s₂ i ≡ true = row-open s₂ i (a .the-row) (a .row₂) in
-      two-unless (Alikely i (pick (opens h) opening (within i (askOf h payload)))) (leb 128 (length (q .out))) _ _ _ _ (λ _ _. (refl, refl)) λ _.
-      three-by (Alikely i) (opens h) opening (within i (askOf h payload)) _ _ _ _ (λ z. absurd (open-index s₁ i o₁ .0 (opens-zero h z))) λ _.
-      rw (open-test s₁ i o₁, open-test s₂ i o₂) (row-like h e f a)
-
-  -- the fourth byte is the session id
-  pub named : (i : ℕ) (h : Header) (e : Extent) → readOf (q .input) ≡ reading.Frame h e → T (names i (call q)) → i ≡ h .session .0
-  named i h e f t = sym (session-fourth (q .input) h e f ∙ eqb-true (getD (q .input) 3 0) i (second (ltb 3 (length (q .input))) (eqb (getD (q .input) 3 0) i) t))
-    where
-      second : (a b : Bool) → T (a && b) → b ≡ true
-      second true true u = refl
-      second true false u = absurd u
-      second false b u = absurd u
-
-  reading-like : (i : ℕ) → T (names i (call q)) → Alike i s₁ s₂ → (x : Reading) → readOf (q .input) ≡ x
-      → Alikely i (seenIn (q .input) x) (readingOf (s₁ .link) (s₁ .pool) (q .input) (q .out) (q .grant) x) (readingOf (s₂ .link) (s₂ .pool) (q .input) (q .out) (q .grant) x)
-  reading-like i t a (reading.Short n) f = λ _. (refl, refl)
-  reading-like i t a (reading.Refused n) f = λ _. (refl, refl)
-  reading-like i t a (reading.Frame h e) f =
-      let z : i ≡ h .session .0 = named i h e f t in
-      subst (λ (j : ℕ). Alikely j (seenIn (q .input) (reading.Frame h e))
-      (frameOf (s₁ .link) (s₁ .pool) (q .input) (q .out) h e (q .grant)) (frameOf (s₂ .link) (s₂ .pool) (q .input) (q .out) h e (q .grant)))
-      (sym z) (frame-like h e f (subst (λ (j : ℕ). Alike j s₁ s₂) z a))
-
-  call-like : (i : ℕ) → T (names i (call q)) → Alike i s₁ s₂
-      → Alikely i (seenOf (q .input)) (callOf (s₁ .link) (s₁ .pool) (q .input) (q .out) (q .grant)) (callOf (s₂ .link) (s₂ .pool) (q .input) (q .out) (q .grant))
-  unfolding callOf seenOf
-  call-like i t a =
-      rw (guard-is s₁ (q .grant) k₁, guard-is s₂ (q .grant) k₂)
-      (two-unless (Alikely i (seenIn (q .input) (readOf (q .input)))) (grantFits (q .grant)) _ _ _ _ (λ _ _. (refl, refl)) (λ _. reading-like i t a (readOf (q .input)) refl))
-
 -- the law
 pub same-answer : (s₁ s₂ : State) (c : Command) (i : ℕ) → Sane s₁ → Sane s₂ → Alike i s₁ s₂ → T (names i c)
     → ModestIn (pages s₂ i) c (eventOf s₂ c .answer) → eventOf s₂ c ≡ eventOf s₁ c
 same-answer s₁ s₂ (call q) i k₁ k₂ a t m =
-    let w = call-like s₁ s₂ q k₁ k₂ i t a m in
+    let w = two-calls s₁ s₂ q k₁ k₂ (Alikely s₁ s₂ q k₁ k₂) (λ _ _ _ _ _. (refl, refl)) (row-like s₁ s₂ q k₁ k₂) i t a m in
     sym (ap₂ (λ (x : Answer) (o : List ℕ). record { command = call q; answer = x; out = o }) (w .0) (w .1))

@@ -45,7 +45,7 @@ use Rattle.link.specs.Book.{Request, Command, call, Ask, first, next, Se
 use Rattle.link.specs.Claim.{State, stepped, stateAfter, eventOf, endOf, isOpen, DeliversIt, DeliversDue}
 use Rattle.link.specs.Pages.{rowOf, notesFrom, pageOf, pages, Sane}
 use Rattle.link.specs.Arrival.{Fronts, Brings, Between, Cut, ArrivesWhole}
-use Rattle.link.proofs.Answers.{guard-is, open-test, opens-zero}
+use Rattle.link.proofs.Calls.{guard-is, open-test, opens-zero}
 use Rattle.link.proofs.Others.{with-id, settled-id, other-row, other-page}
 use Rattle.link.proofs.RowFacts.{RowFacts, place-below, service-place, OpenFacts, open-facts}
 use Rattle.link.proofs.RowRules.{fits-settled}

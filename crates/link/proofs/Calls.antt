@@ -5,7 +5,7 @@ use Prim.Native.Nat.{ℕ, _+_, _-_, _≤_, _<_}
 use mathlib.Core.Path.{_≡_, refl, sym, subst, _∙_}
 use mathlib.Core.Logic.{_⊎_, inl, inr}
 use mathlib.Core.Bool.{Bool, true, false, _&&_, and-true, not}
-use mathlib.Core.List.{List, []}
+use mathlib.Core.List.{List}
 use native.Mathlib.Omega.{arith}
 use lib.Dec.{T, eqb, ltb, leb}
 use lib.ListN.{length, getD}
@@ -130,7 +130,7 @@ named q i h e f t = sym (session-fourth (q .input) h e f ∙ eqb-true (getD (q .
     second false b u = absurd u
 
 -- tests that two and three choices share
-two-unless : {A B : Type 0} (P : A → B → Type 0) (b : Bool) (x y : A) (u v : B) → (b ≡ false → P x u) → (b ≡ true → P y v) → P (unless b x y) (unless b u v)
+pub two-unless : {A B : Type 0} (P : A → B → Type 0) (b : Bool) (x y : A) (u v : B) → (b ≡ false → P x u) → (b ≡ true → P y v) → P (unless b x y) (unless b u v)
 two-unless P true x y u v f g = g refl
 two-unless P false x y u v f g = f refl
 

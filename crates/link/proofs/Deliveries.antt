@@ -2,20 +2,19 @@
 -- Assumes nothing.
 use Prim.Native.Nat.{ℕ, zero, suc, _+_, _-_, _*_, _≤_, _<_}
 use mathlib.Core.Path.{_≡_, refl, ap, _∙_, sym, subst}
-use mathlib.Core.Bool.{Bool, true, false, _&&_, not}
+use mathlib.Core.Bool.{Bool, true}
 use mathlib.Core.Option.{Option, none, some}
 use mathlib.Core.List.{List, [], _∷_, _++_}
 use native.Mathlib.Omega.{arith}
-use lib.Dec.{T, eqb, ltb, leb}
+use lib.Dec.{T, eqb, leb}
 use lib.ListN.{length, getD, take, length-append}
 use lib.Seq.{length-take-le}
 use borrow.Author.Tests.{eqb-true, eq-eqb, ne-eqb}
-use Rattle.numbers.specs.Bytes.{pick, part, laid}
-use Rattle.numbers.proofs.Choices.{and-both, unless-elim}
+use Rattle.numbers.specs.Bytes.{part, laid}
+use Rattle.numbers.proofs.Choices.{and-both}
 use Rattle.blocks.specs.Map.{heldBy as blocksOf}
 use Rattle.frame.specs.declared.Header.{Header}
 use Rattle.frame.specs.declared.Extent.{Extent}
-use Rattle.frame.specs.declared.Reading.{Reading}
 use Rattle.frame.specs.declared.Reading.the-variants as reading
 use Rattle.frame.specs.Read.{readOf}
 use Rattle.frame.proofs.ThereAndBack.{payload-length}
@@ -25,14 +24,13 @@ use Rattle.session.specs.declared.Reassembly.{Reassembly}
 use Rattle.session.specs.declared.Act.{Act}
 use Rattle.session.specs.Rows.{noRow, noReassembly, messageAt}
 use Rattle.session.specs.Decide.{placeOf, needOf, heldBy, sized}
-use Rattle.link.specs.declared.Link.{Link}
-use Rattle.link.specs.declared.Grant.{Grant}
-use Rattle.link.specs.State.{indexOf, ownerOf, guardOf}
-use Rattle.link.specs.Call.{After, Wish, old, new, bad, wishOf, opens, admits, openingBy, decisionOf, applied, frameOf, readingOf, callOf}
-use Rattle.link.specs.Book.{Request, Command, call, Ask, end, Seen, opening, within, askOf, seenIn, seenOf, isAccepted, noNote, Page, dueFor, dueOn, dueIn, dueOf}
-use Rattle.link.specs.Claim.{State, eventOf, isOpen, isDelivery, DeliversDue}
+use Rattle.link.specs.State.{indexOf, ownerOf}
+use Rattle.link.specs.Call.{After, decisionOf, applied}
+use Rattle.link.specs.Book.{Request, Command, call, Ask, end, Seen, askOf, isAccepted, noNote, Page, dueFor, dueOn, dueIn, dueOf}
+use Rattle.link.specs.Claim.{State, eventOf, isOpen, DeliversDue}
 use Rattle.link.specs.Pages.{noteOf, notesFrom, pageOf, pages, Sane}
-use Rattle.link.proofs.Decisions.{both-by, Decided, refuses, accepts, beats, starts, starts-not, stops, closes, ends-not, hands-over, claims, drops, appends, delivers, decided}
+use Rattle.link.proofs.Calls.{Called, short, refused, nacked, acked, in-row, called}
+use Rattle.link.proofs.Decisions.{Decided, refuses, accepts, beats, starts, starts-not, stops, closes, ends-not, hands-over, claims, drops, appends, delivers, decided}
 use Rattle.link.proofs.Shown.{is-open, page-of}
 use Rattle.link.proofs.RowFacts.{Fits, place-below, open-facts}
 use Rattle.link.proofs.Each.{or-then}
@@ -47,15 +45,6 @@ notes-at s n from (m ∷ ms) (suc k) h = let z : from + suc k ≡ suc from + k =
 -- what a call owes for what is due
 abbrev pub Gives : Request → Option (List ℕ) → After → Type 0
 Gives q due w = T (isAccepted (w .answer)) → DeliversDue due (record { command = call q; answer = w .answer; out = w .out })
-
--- no reply and no refusal is a delivery
-abbrev Quiet : After → Type 0
-Quiet w = isDelivery (w .answer) ≡ false
-
-opening-quiet : (l : Link) (p o : List ℕ) (consumed : ℕ) (g : Grant) (w : Wish) → Quiet (openingBy l p o consumed g w)
-opening-quiet l p o consumed g bad = refl
-opening-quiet l p o consumed g old = unless-elim Quiet (admits (l .rows) g) _ _ (λ e. refl) (λ e. refl)
-opening-quiet l p o consumed g (new v) = unless-elim Quiet (admits (l .rows) g) _ _ (λ e. refl) (λ e. refl)
 
 -- a message's blocks have room for all of it
 pub need-holds : (total : ℕ) → total ≤ 256 * needOf total
@@ -170,29 +159,13 @@ module _ (s : State) (q : Request) (k : Sane s) where
       (sym (page-of s i o))
       (gives s q n h (e .consumed) payload k (payload-length (q .input) h e f) (r .five) (r .fits) (r .room) (decided (s .link) n h payload (length (q .out))))
 
-  frame-gives : (h : Header) (e : Extent) → readOf (q .input) ≡ reading.Frame h e
-      → Gives q (dueIn (pages s) (seenIn (q .input) (reading.Frame h e))) (frameOf (s .link) (s .pool) (q .input) (q .out) h e (q .grant))
-  unfolding frameOf
-  frame-gives h e f =
-      let payload : List ℕ = part (q .input) (e .start) (e .end - e .start) in
-      let i : ℕ = h .session .0 in
-      let seen : Seen = within i (askOf h payload) in
-      unless-elim (Gives q (dueIn (pages s) (pick (opens h) opening seen))) (leb 128 (length (q .out))) _ _ (λ _ z. absurd z) λ _.
-      both-by (λ (x : Seen) (w : After). Gives q (dueIn (pages s) x) w) (opens h) opening seen _ _
-      (λ _ _. opening-quiet (s .link) (s .pool) (q .out) (e .consumed) (q .grant) (wishOf (s .link .version .major) payload)) λ _.
-      unless-elim (Gives q (dueIn (pages s) seen)) (not (eqb i 0) && ltb (indexOf i (s .link .rows)) (length (s .link .rows))) _ _ (λ _ z. absurd z) (λ o. row-gives h e f (is-open s i o))
-
-  reading-gives : (r : Reading) → readOf (q .input) ≡ r → Gives q (dueIn (pages s) (seenIn (q .input) r)) (readingOf (s .link) (s .pool) (q .input) (q .out) (q .grant) r)
-  reading-gives (reading.Short n) f = λ z. absurd z
-  reading-gives (reading.Refused n) f = λ z. absurd z
-  reading-gives (reading.Frame h e) f = frame-gives h e f
-
-  call-gives : Gives q (dueIn (pages s) (seenOf (q .input))) (callOf (s .link) (s .pool) (q .input) (q .out) (q .grant))
-  unfolding callOf seenOf
-  call-gives =
-      unless-elim (Gives q (dueIn (pages s) (seenIn (q .input) (readOf (q .input))))) (guardOf (s .link) (length (s .pool)) (q .grant)) _ _
-      (λ _ z. absurd z) (λ _. reading-gives (readOf (q .input)) refl)
+  call-gives : {x : Seen} {w : After} → Called (s .link) (s .pool) (q .input) (q .out) (q .grant) x w → Gives q (dueIn (pages s) x) w
+  call-gives short = λ z. absurd z
+  call-gives (refused b) = λ z. absurd z
+  call-gives nacked = λ _. refl
+  call-gives (acked t a v) = λ _. refl
+  call-gives (in-row h e f t b a) = row-gives h e f (is-open s (h .session .0) a)
 
 -- the law
 pub hands : (s : State) (c : Command) → Sane s → T (isAccepted (eventOf s c .answer)) → DeliversDue (dueOf (pages s) c) (eventOf s c)
-hands s (call q) k t = call-gives s q k t
+hands s (call q) k t = call-gives s q k (called (s .link) (s .pool) (q .input) (q .out) (q .grant)) t

@@ -7,7 +7,7 @@ use mathlib.Core.Bool.{Bool, true, false, true≢false, _&&_, not}
 use mathlib.Core.Option.{Option, none, some}
 use mathlib.Core.List.{List}
 use native.Mathlib.Omega.{arith}
-use lib.Dec.{T, eqb, leb}
+use lib.Dec.{T, eqb}
 use lib.ListN.{length, getD}
 use borrow.Author.Tests.{eqb-true}
 use Rattle.numbers.specs.Bytes.{pick, part}
@@ -24,8 +24,8 @@ use Rattle.session.specs.Rows.{noRow}
 use Rattle.session.specs.Decide.{rowAfter}
 use Rattle.link.specs.declared.Grant.{Grant}
 use Rattle.link.specs.declared.Answer.{Answer}
-use Rattle.link.specs.State.{indexOf, grantFits}
-use Rattle.link.specs.Call.{After, opens, decisionOf, applied, frameOf, readingOf, callOf}
+use Rattle.link.specs.State.{indexOf}
+use Rattle.link.specs.Call.{After, opens, decisionOf, applied}
 use Rattle.link.specs.Book.{Request, Command, call, Event, Ask, single, first, next, end, other, Seen, opening, within, nothing, askOf, seenIn, seenOf, isAck, Page, Book, there, pageAfter, pageAfterIf, noted, bookAfter, names, endsRpc, closes, shuts, ModestOn, ModestIn}
 use Rattle.link.specs.Claim.{State, stateAfter, eventOf, isOpen}
 use Rattle.link.specs.Pages.{rowOf, pages, Sane}
@@ -36,7 +36,8 @@ use Rattle.link.proofs.Others.{with-id, settled-id, service-id}
 use Rattle.link.proofs.PageAfter.{stored-row, gone-page}
 use Rattle.link.proofs.BookAfter.{told}
 use Rattle.link.proofs.Settings.{settings}
-use Rattle.link.proofs.Answers.{two-unless, three-by, guard-is, open-test, opens-zero, decided-alike, named, same-answer}
+use Rattle.link.proofs.Answers.{decided-alike, same-answer}
+use Rattle.link.proofs.Calls.{opens-zero, named, two-calls}
 use Rattle.link.proofs.Lists.{Alike}
 
 -- ---- the book at one session
@@ -143,37 +144,6 @@ module _ (s₁ s₂ : State) (q : Request) (k₁ : Sane s₁) (k₂ : Sane s₂)
         ),
       )
 
-  frame-one : (h : Header) (e : Extent) → Alike (h .session .0) s₁ s₂
-      → OneRow (h .session .0) (seenIn (q .input) (reading.Frame h e))
-      (frameOf (s₁ .link) (s₁ .pool) (q .input) (q .out) h e (q .grant)) (frameOf (s₂ .link) (s₂ .pool) (q .input) (q .out) h e (q .grant))
-  unfolding frameOf
-  frame-one h e a =
-      let i : ℕ = h .session .0 in
-      let payload : List ℕ = part (q .input) (e .start) (e .end - e .start) in
-      let seen : Seen = within i (askOf h payload) in
-      let o₁ : isOpen s₁ i ≡ true = row-open s₁ i (a .the-row) (a .row₁) in
-      let o₂ : isOpen s₂ i ≡ true = row-open s₂ i (a .the-row) (a .row₂) in
-      two-unless (OneRow i (pick (opens h) opening seen)) (leb 128 (length (q .out))) _ _ _ _ (λ _ _ _ _. (a .the-row, (a .row₁, a .row₂))) λ _.
-      three-by (OneRow i) (opens h) opening seen _ _ _ _ (λ z. absurd (open-index s₁ i o₁ .0 (opens-zero h z))) λ _.
-      rw (open-test s₁ i o₁, open-test s₂ i o₂) (row-one h e a)
-
-  reading-one : (i : ℕ) → T (names i (call q)) → Alike i s₁ s₂ → (x : Reading) → readOf (q .input) ≡ x
-      → OneRow i (seenIn (q .input) x) (readingOf (s₁ .link) (s₁ .pool) (q .input) (q .out) (q .grant) x) (readingOf (s₂ .link) (s₂ .pool) (q .input) (q .out) (q .grant) x)
-  reading-one i t a (reading.Short n) f = λ _ _ _. (a .the-row, (a .row₁, a .row₂))
-  reading-one i t a (reading.Refused n) f = λ _ _ _. (a .the-row, (a .row₁, a .row₂))
-  reading-one i t a (reading.Frame h e) f =
-      let z : i ≡ h .session .0 = named s₁ s₂ q k₁ k₂ i h e f t in
-      subst (λ (j : ℕ). OneRow j (seenIn (q .input) (reading.Frame h e))
-      (frameOf (s₁ .link) (s₁ .pool) (q .input) (q .out) h e (q .grant)) (frameOf (s₂ .link) (s₂ .pool) (q .input) (q .out) h e (q .grant)))
-      (sym z) (frame-one h e (subst (λ (j : ℕ). Alike j s₁ s₂) z a))
-
-  call-one : (i : ℕ) → T (names i (call q)) → Alike i s₁ s₂
-      → OneRow i (seenOf (q .input)) (callOf (s₁ .link) (s₁ .pool) (q .input) (q .out) (q .grant)) (callOf (s₂ .link) (s₂ .pool) (q .input) (q .out) (q .grant))
-  unfolding callOf seenOf
-  call-one i t a =
-      rw (guard-is s₁ (q .grant) k₁, guard-is s₂ (q .grant) k₂)
-      (two-unless (OneRow i (seenIn (q .input) (readOf (q .input)))) (grantFits (q .grant)) _ _ _ _ (λ _ _ _ _. (a .the-row, (a .row₁, a .row₂))) (λ _. reading-one i t a (readOf (q .input)) refl))
-
   -- a call that names an open session is no opening
   no-opening : (i : ℕ) → T (names i (call q)) → (i ≡ 0 → ⊥) → seenOf (q .input) ≡ opening → ⊥
   unfolding seenOf
@@ -190,7 +160,7 @@ module _ (s₁ s₂ : State) (q : Request) (k₁ : Sane s₁) (k₂ : Sane s₂)
       byReading (reading.Short n) f e = let w : _≡_ {A = ℕ} 0 1 = cc in omega arith
       byReading (reading.Refused n) f e = let w : _≡_ {A = ℕ} 0 1 = cc in omega arith
       byReading (reading.Frame h x) f e =
-          z (named s₁ s₂ q k₁ k₂ i h x f t ∙ opens-zero h (is-opening (opens h) (within (h .session .0) (askOf h (part (q .input) (x .start) (x .end - x .start)))) (not-within _ _) e))
+          z (named q i h x f t ∙ opens-zero h (is-opening (opens h) (within (h .session .0) (askOf h (part (q .input) (x .start) (x .end - x .start)))) (not-within _ _) e))
 
   -- no closing, in the words of the book
   not-closing : (i : ℕ) (e : Event) → T (names i (e .command)) → e .command ≡ call q → T (not (shuts i e)) → isAck (e .answer) && endsRpc (seenOf (q .input)) ≡ false
@@ -219,7 +189,7 @@ same-after s₁ s₂ (call q) i k₁ k₂ a t m n =
     = ap (λ (b : Book). there (b i)) (sym b₁) ∙ book-there (pages s₁) (q .grant) (eventOf s₁ c .answer) x i (sym (shown s₁ i) ∙ o₁) (not-closing s₁ s₂ q k₁ k₂ i (eventOf s₁ c) t refl n) in
     let t₂ : there (pages (stateAfter s₂ c) i) ≡ true
     = ap (λ (b : Book). there (b i)) (sym b₂) ∙ book-there (pages s₂) (q .grant) (eventOf s₂ c .answer) x i (sym (shown s₂ i) ∙ o₂) (not-closing s₁ s₂ q k₁ k₂ i (eventOf s₂ c) t refl n₂) in
-    let one = call-one s₁ s₂ q k₁ k₂ i t a m t₁ t₂ in
+    let one = two-calls s₁ s₂ q k₁ k₂ (OneRow s₁ s₂ q k₁ k₂) (λ _ _ _ b _ _ _. (b .the-row, (b .row₁, b .row₂))) (λ h e _. row-one s₁ s₂ q k₁ k₂ h e) i t a m t₁ t₂ in
     record {
       the-row = one .0;
       row₁ = one .1 .0;
