@@ -22,6 +22,7 @@ use Rattle.frame.proofs.Answers.{is-refused, session-fourth}
 use Rattle.payload.specs.declared.version.Version.{Version}
 use Rattle.payload.specs.Walk.{payloadOf}
 use Rattle.session.specs.declared.Row.{Row}
+use Rattle.session.specs.declared.Act.{Act}
 use Rattle.session.specs.Rows.{openedRow}
 use Rattle.link.specs.declared.Link.{Link}
 use Rattle.link.specs.declared.Grant.{Grant}
@@ -138,18 +139,21 @@ pub three-by : {A B C : Type 0} (P : A → B → C → Type 0) (b : Bool) (x y :
 three-by P true x y u v s t f g = f refl
 three-by P false x y u v s t f g = g refl
 
--- what the decision on a frame of a session leaves
+-- a frame's payload, the decision on a frame of a session, and what it leaves
+abbrev pub payloadIn : Request → Extent → List ℕ
+payloadIn q e = part (q .input) (e .start) (e .end - e .start)
+
+abbrev pub rowAct : State → Request → Header → Extent → Act
+rowAct s q h e = decisionOf (s .link) (indexOf (h .session .0) (s .link .rows)) h (payloadIn q e) (length (q .out))
+
 abbrev pub rowCall : State → Request → Header → Extent → After
-rowCall s q h e =
-    let n : ℕ = indexOf (h .session .0) (s .link .rows) in
-    let bytes : List ℕ = part (q .input) (e .start) (e .end - e .start) in
-    applied (s .link) n (s .pool) (q .out) h (e .consumed) bytes (q .grant) (decisionOf (s .link) n h bytes (length (q .out)))
+rowCall s q h e = applied (s .link) (indexOf (h .session .0) (s .link .rows)) (s .pool) (q .out) h (e .consumed) (payloadIn q e) (q .grant) (rowAct s q h e)
 
 -- a call that names a session on which both states agree: both leave all as it was, with one answer, or both decide on its row
 module _ (s₁ s₂ : State) (q : Request) (k₁ : Sane s₁) (k₂ : Sane s₂) (P : ℕ → Seen → After → After → Type 0)
     (same : (i : ℕ) (x : Seen) (a : Answer) → Alike i s₁ s₂ → P i x (after a (s₁ .link) (s₁ .pool) (q .out)) (after a (s₂ .link) (s₂ .pool) (q .out)))
     (row : (h : Header) (e : Extent) → readOf (q .input) ≡ reading.Frame h e → Alike (h .session .0) s₁ s₂
-    → P (h .session .0) (within (h .session .0) (askOf h (part (q .input) (e .start) (e .end - e .start)))) (rowCall s₁ q h e) (rowCall s₂ q h e)) where
+    → P (h .session .0) (within (h .session .0) (askOf h (payloadIn q e))) (rowCall s₁ q h e) (rowCall s₂ q h e)) where
   two-frames : (h : Header) (e : Extent) → readOf (q .input) ≡ reading.Frame h e → Alike (h .session .0) s₁ s₂
       → P (h .session .0) (seenIn (q .input) (reading.Frame h e))
       (frameOf (s₁ .link) (s₁ .pool) (q .input) (q .out) h e (q .grant)) (frameOf (s₂ .link) (s₂ .pool) (q .input) (q .out) h e (q .grant))

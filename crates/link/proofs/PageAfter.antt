@@ -187,10 +187,10 @@ module _ (s : State) (i n : ℕ) (k : Sane s) (at : indexOf i (s .link .rows) �
       ∙ ap (λ (y : Note). set (notesFrom s n 0 (r .messages)) place y) f)
 
   -- a closed session has no page
-  pub gone-page : (owners pool : List ℕ) → pages (stored freeRow owners pool) i ≡ none
-  gone-page owners pool =
-      closed-page (stored freeRow owners pool) i (missing-closed (stored freeRow owners pool) i
-      (index-set-gone i (s .link .rows) n freeRow (rules-say (s .link) (k .rules) .ids) below mine some-id (λ e. some-id (sym e))))
+  pub gone-page : (x : Row) (owners pool : List ℕ) → x .id .0 ≡ 0 → pages (stored x owners pool) i ≡ none
+  gone-page x owners pool e =
+      closed-page (stored x owners pool) i (missing-closed (stored x owners pool) i
+      (index-set-gone i (s .link .rows) n x (rules-say (s .link) (k .rules) .ids) below mine some-id (λ z. some-id (sym z ∙ e))))
 
   -- ---- after a decision: h the frame's header, payload its payload
 
@@ -346,7 +346,7 @@ module _ (s : State) (i n : ℕ) (k : Sane s) (at : indexOf i (s .link .rows) �
     tells starts = sym (same-page _ (acked-shape r _ _ (service-shape r r _ (same-shape r) (h .service) _)))
     tells starts-not = sym open-page
     tells (stops d) = rw (ne-eqb place 1 d) (sym (dropped (s .pool) (λ _ _. refl) _ (acked-shape r _ _ (service-shape r _ _ drop-shape (h .service) _))))
-    tells (closes d) = rw (eq-eqb place 1 d) (sym (gone-page (released (ownerOf n 0) (ownerOf n 4) (s .link .owners)) (s .pool)))
+    tells (closes d) = rw (eq-eqb place 1 d) (sym (gone-page freeRow (released (ownerOf n 0) (ownerOf n 4) (s .link .owners)) (s .pool) refl))
     tells ends-not = sym open-page
     tells (hands-over p) = sym (same-page _ (settled-shape r r _ (same-shape r) (h .version)))
     tells (claims p a b c d e) = claim-tells _ _
