@@ -46,7 +46,7 @@ use Rattle.link.specs.Claim.{State, stepped, stateAfter, eventOf, endOf,
 use Rattle.link.specs.Pages.{rowOf, notesFrom, pageOf, pages, Sane}
 use Rattle.link.specs.Arrival.{Fronts, Brings, Between, Cut, ArrivesWhole}
 use Rattle.link.proofs.Calls.{guard-is, open-test, opens-zero}
-use Rattle.link.proofs.Others.{with-id, settled-id, other-row, other-page}
+use Rattle.link.proofs.Others.{Sizes, set-sizes, settled-sizes, other-row, other-page}
 use Rattle.link.proofs.RowFacts.{RowFacts, place-below, service-place, OpenFacts, open-facts}
 use Rattle.link.proofs.RowRules.{fits-settled}
 use Rattle.link.proofs.Each.{then-or}
@@ -109,10 +109,6 @@ set-message r place x h five = rw (lt-ltb place 5 h) (getD-set-same (r .messages
 set-version : (r : Row) (place : ℕ) (x : Reassembly) → withMessageAt r place x .version ≡ r .version
 unfolding withMessageAt
 set-version r place x = either (λ (y : Row). y .version ≡ r .version) (ltb place 5) _ r (λ e. refl) (λ e. refl)
-
-settled-list : (r : Row) (v : ℕ) → settledRow r v .messages ≡ r .messages
-unfolding settledRow
-settled-list r v = either (λ (y : Row). y .messages ≡ r .messages) (eqb (r .version) 0) _ r (λ e. refl) (λ e. refl)
 
 notes-length : (s : State) (n from : ℕ) (ms : List Reassembly) → length (notesFrom s n from ms) ≡ length ms
 unfolding notesFrom
@@ -359,7 +355,7 @@ module _ (o : Outgoing) (m : List ℕ) (cut : Cut o m) where
         found-next =
             let old : Row = getD (s .link .rows) index noRow in
             ap (λ (x : After). rowOf (record { link = x .link; pool = x .pool }) i) is-append
-            ∙ stored-row s i index (w .sane-state) refl (facts .below) (facts .some-id) (facts .mine) (rowAfter old h (q .grant .hash) Append) _ _ (with-id old _ _)
+            ∙ stored-row s i (w .sane-state) opened (rowAfter old h (q .grant .hash) Append) _ _ (ap (λ (x : Sizes). x .id) (set-sizes old place _ (place-below (o .service .0))))
             ∙ ap (λ (x : Row). some (rowAfter x h (q .grant .hash) Append)) is-row
 
         message-next : messageAt row-next place ≡ partly (suc j)
@@ -498,15 +494,14 @@ module _ (o : Outgoing) (m : List ℕ) (cut : Cut o m) where
 
     first-found : rowOf (stateAfter s (call q)) i ≡ some first-row
     first-found =
-        let facts : OpenFacts s i at = open-facts s i k opened in
         ap (λ (x : After). rowOf (record { link = x .link; pool = x .pool }) i) is-claim
-        ∙ stored-row s i at k refl (facts .below) (facts .some-id) (facts .mine) first-row _ _ (settled-id _ (o .version) ∙ with-id old _ _)
+        ∙ stored-row s i k opened first-row _ _ (ap (λ (x : Sizes). x .id) (settled-sizes _ (o .version)) ∙ ap (λ (x : Sizes). x .id) (set-sizes old place _ (place-below (o .service .0))))
 
     first-message : messageAt first-row place ≡ partly 0
     first-message =
         let a : length m ≡ length m - 0 * o .chunk = omega arith in
         let b : c ≡ c - 0 = omega arith in
-        ap (λ (x : List Reassembly). getD x place noReassembly) (settled-list (withMessageAt old place (announced (o .message) (length m) c)) (o .version))
+        ap (λ (x : Sizes). getD (x .messages) place noReassembly) (settled-sizes (withMessageAt old place (announced (o .message) (length m) c)) (o .version))
         ∙ set-message old place (announced (o .message) (length m) c) (place-below (o .service .0)) (open-facts s i k opened .five)
         ∙ ap (λ (x : ℕ). record { live = true; id = o .message; total = length m; count = c; frames = c; missing = x }) a
         ∙ ap (λ (x : ℕ). record { live = true; id = o .message; total = length m; count = c; frames = x; missing = length m - 0 * o .chunk }) b

@@ -127,12 +127,10 @@ module _ (s : State) (k : Sane s) where
         let act : Act = decisionOf (s .link) n h payload (length (q .out)) in
         let w : After = applied (s .link) n (s .pool) (q .out) h (e .consumed) payload (q .grant) act in
         let o : isOpen s i ≡ true = is-open s i a in
-        let r = open-facts s i k o in
         written-at (pages s) (pages (after w)) i _
         (ap (λ (p : Option Page). pageAfterIf p (askOf h payload) (w .answer)) (page-of s i o)
-        ∙ tells s i n k refl (r .below) (r .some-id) (r .mine) q h (e .consumed) payload (payload-length (q .input) h e f) (r .five) (r .fits) (r .room)
-        (decided (s .link) n h payload (length (q .out))))
-        (λ j d. sym (others-kept i n q h (e .consumed) payload act (r .mine) j d))
+        ∙ tells s i k o q h (e .consumed) payload (payload-length (q .input) h e f) (decided (s .link) n h payload (length (q .out))))
+        (λ j d. sym (others-kept i n q h (e .consumed) payload act (open-facts s i k o .mine) j d))
 
 -- the law
 pub told : (s : State) (c : Command) → Sane s → bookAfter (pages s) c (eventOf s c .answer) ≡ pages (stateAfter s c)

@@ -7,7 +7,7 @@ use mathlib.Core.Bool.{true, not}
 use mathlib.Core.Option.{Option, some}
 use mathlib.Core.List.{List, [], _∷_}
 use native.Mathlib.Omega.{arith}
-use lib.Dec.{T, eqb, ltb}
+use lib.Dec.{T, eqb}
 use lib.ListN.{length, getD, set, length-set}
 use lib.Seq.{getD-set-other, set-getD}
 use borrow.Author.Tests.{lt-ltb, eq-eqb}
@@ -39,36 +39,60 @@ use Rattle.link.proofs.Holdings.{open-index, five-at}
 use Rattle.link.proofs.Table.{index-set-other, lowest-of-eight, index-row, owner-some, owner-apart, owner-outside}
 use Rattle.link.proofs.Calls.{admitted, entered, Called, short, refused, nacked, acked, in-row, called}
 use Rattle.link.proofs.RowFacts.{place-below}
+use Rattle.link.proofs.RowRules.{message-at-is}
 
--- no method of a row but its closing changes its id
-pub with-id : (r : Row) (place : ℕ) (m : Reassembly) → withMessageAt r place m .id .0 ≡ r .id .0
-unfolding withMessageAt
-with-id r place m = either (λ (x : Row). x .id .0 ≡ r .id .0) (ltb place 5) _ r (λ e. refl) (λ e. refl)
+-- ---- rows
 
-pub settled-id : (r : Row) (v : ℕ) → settledRow r v .id .0 ≡ r .id .0
+-- what a row shows besides its services, version and counter
+pub record Sizes : Type 0 where
+  pub id : ℕ
+  pub guarantee : ℕ
+  pub cap : ℕ
+  pub messages : List Reassembly
+
+-- those of a row with other messages
+abbrev pub sizesWith : Row → List Reassembly → Sizes
+sizesWith r ms = record { id = r .id .0; guarantee = r .guarantee; cap = r .cap; messages = ms }
+
+abbrev pub sizes : Row → Sizes
+sizes r = sizesWith r (r .messages)
+
+pub set-sizes : (r : Row) (place : ℕ) (m : Reassembly) → place < 5 → sizes (withMessageAt r place m) ≡ sizesWith r (set (r .messages) place m)
+set-sizes r place m b = ap sizes (message-at-is r place m b)
+
+pub settled-sizes : (r : Row) (v : ℕ) → sizes (settledRow r v) ≡ sizes r
 unfolding settledRow
-settled-id r v = either (λ (x : Row). x .id .0 ≡ r .id .0) (eqb (r .version) 0) _ r (λ e. refl) (λ e. refl)
+settled-sizes r v = either (λ (x : Row). sizes x ≡ sizes r) (eqb (r .version) 0) _ r (λ _. refl) (λ _. refl)
 
-pub service-id : (r : Row) (s : ServiceType) (x : Running) → withService r s x .id .0 ≡ r .id .0
+pub service-sizes : (r : Row) (s : ServiceType) (x : Running) → sizes (withService r s x) ≡ sizes r
 unfolding withService
-service-id r s x =
-    either (λ (y : Row). y .id .0 ≡ r .id .0) (eqb (s .0) 0x0A) _ _ (λ e. refl) (λ e. either (λ (y : Row). y .id .0 ≡ r .id .0) (eqb (s .0) 0x0B) _ r (λ f. refl) (λ f. refl))
+service-sizes r s x =
+    let P : Row → Type 0 = λ y. sizes y ≡ sizes r in
+    either P (eqb (s .0) 0x0A) _ _ (λ _. refl) λ _. either P (eqb (s .0) 0x0B) _ r (λ _. refl) (λ _. refl)
 
 -- the id after a decision: the same, or 0
 pub after-id : (r : Row) (h : Header) (hash : ℕ) (act : Act) → (rowAfter r h hash act .id .0 ≡ r .id .0) ⊎ (rowAfter r h hash act .id .0 ≡ 0)
-after-id r h hash (Refuse n) = inl refl
-after-id r h hash (Drop n) = inl (with-id r _ _)
-after-id r h hash Accept = inl refl
-after-id r h hash Beat = inl refl
-after-id r h hash Start = inl (service-id r (h .service) _)
-after-id r h hash NoStart = inl refl
-after-id r h hash Stop = inl (service-id _ (h .service) _ ∙ with-id r _ _)
-after-id r h hash Close = inr refl
-after-id r h hash (NoEnd named) = inl refl
-after-id r h hash (Claim total count) = inl (settled-id _ (h .version) ∙ with-id r _ _)
-after-id r h hash Append = inl (with-id r _ _)
-after-id r h hash Deliver = inl (with-id r _ _)
-after-id r h hash Single = inl (settled-id r (h .version))
+after-id r h hash act = by act
+  where
+    set-id : (m : Reassembly) → withMessageAt r (placeOf (h .service .0)) m .id .0 ≡ r .id .0
+    set-id m = ap (λ (x : Sizes). x .id) (set-sizes r (placeOf (h .service .0)) m (place-below (h .service .0)))
+
+    by : (act : Act) → (rowAfter r h hash act .id .0 ≡ r .id .0) ⊎ (rowAfter r h hash act .id .0 ≡ 0)
+    by (Refuse n) = inl refl
+    by (Drop n) = inl (set-id _)
+    by Accept = inl refl
+    by Beat = inl refl
+    by Start = inl (ap (λ (x : Sizes). x .id) (service-sizes r (h .service) _))
+    by NoStart = inl refl
+    by Stop = inl (ap (λ (x : Sizes). x .id) (service-sizes _ (h .service) _) ∙ set-id _)
+    by Close = inr refl
+    by (NoEnd named) = inl refl
+    by (Claim total count) = inl (ap (λ (x : Sizes). x .id) (settled-sizes _ (h .version)) ∙ set-id _)
+    by Append = inl (set-id _)
+    by Deliver = inl (set-id _)
+    by Single = inl (ap (λ (x : Sizes). x .id) (settled-sizes r (h .version)))
+
+-- ---- what a decision moves
 
 -- what a decision on row m makes of link and pool: its row after, and a map and a pool in which no other row's blocks read otherwise
 pub record Moves (l : Link) (m : ℕ) (p : List ℕ) (after : Row) (w : After) : Type 0 where
@@ -115,6 +139,8 @@ module _ (l : Link) (m : ℕ) (p out : List ℕ) (h : Header) (consumed : ℕ) (
   moves Append = record { owners = l .owners; link = refl; bytes = joined _ }
   moves Deliver = record { owners = _; link = refl; bytes = λ n q d b. freed _ n q d b ∙ joined _ n q d b }
   moves Single = record { owners = l .owners; link = refl; bytes = λ n q d b. refl }
+
+-- ---- what stays of a session that is not named
 
 -- notes that read the same bytes are the same
 pub notes-same : (s t : State) (n from : ℕ) (ms : List Reassembly)

@@ -82,7 +82,7 @@ settled-is : (r : Row) (v : ℕ) → (eqb (r .version) 0 ≡ false → v ≡ r .
 unfolding settledRow
 settled-is r v f = either (λ (x : Row). x ≡ versioned r v) (eqb (r .version) 0) (versioned r v) r (λ t. refl) (λ t. sym (ap (versioned r) (f t)))
 
-message-at-is : (r : Row) (p : ℕ) (m : Reassembly) → p < 5 → withMessageAt r p m ≡ withMessages r (set (r .messages) p m)
+pub message-at-is : (r : Row) (p : ℕ) (m : Reassembly) → p < 5 → withMessageAt r p m ≡ withMessages r (set (r .messages) p m)
 unfolding withMessageAt
 message-at-is r p m h = rw (lt-ltb p 5 h)
 

@@ -33,7 +33,6 @@ use Rattle.link.specs.Claim.{State, stateAfter, eventOf, isOpen}
 use Rattle.link.specs.Pages.{rowOf, pages, Sane}
 use Rattle.link.proofs.Shown.{shown, row-open, row-is}
 use Rattle.link.proofs.Holdings.{open-index}
-use Rattle.link.proofs.RowFacts.{open-facts}
 use Rattle.link.proofs.Others.{after-id, moves}
 use Rattle.link.proofs.PageAfter.{stored-row, gone-page}
 use Rattle.link.proofs.BookAfter.{told}
@@ -91,14 +90,14 @@ row-after s q h e r k found t =
     let n : ℕ = indexOf i (s .link .rows) in
     let act : Act = rowAct s q h e in
     let old : Row = getD (s .link .rows) n noRow in
-    let f = open-facts s i k (row-open s i r found) in
+    let o : isOpen s i ≡ true = row-open s i r found in
     let v = moves (s .link) n (s .pool) (q .out) h (e .consumed) (payloadIn q e) (q .grant) act in
     let pool : List ℕ = rowCall s q h e .pool in
     let x : Row = rowAfter old h (q .grant .hash) act in
     ⊎-elim
-    (λ a. ap (λ (l : Link). rowOf (record { link = l; pool = pool }) i) (v .link) ∙ stored-row s i n k refl (f .below) (f .some-id) (f .mine) x (v .owners) pool a)
+    (λ a. ap (λ (l : Link). rowOf (record { link = l; pool = pool }) i) (v .link) ∙ stored-row s i k o x (v .owners) pool a)
     (λ z. absurd (true≢false (sym t ∙ ap (λ (l : Link). there (pages (record { link = l; pool = pool }) i)) (v .link)
-    ∙ ap there (gone-page s i n k refl (f .below) (f .some-id) (f .mine) x (v .owners) pool z))))
+    ∙ ap there (gone-page s i k o x (v .owners) pool z))))
     (after-id old h (q .grant .hash) act)
     ∙ ap (λ (y : Row). some (rowAfter y h (q .grant .hash) act)) (row-is s i r found)
 
