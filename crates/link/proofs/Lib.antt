@@ -19,6 +19,7 @@ pub mod Settings
 pub mod Answers
 pub mod Holdings
 pub mod Created
+pub mod CutFrames
 pub mod Arrival
 pub mod Demand
 pub mod Refusals

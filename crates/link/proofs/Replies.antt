@@ -37,6 +37,14 @@ pub reply-infos : (infoFits 0 0x02 ≡ true) × (infoFits 0 0x03 ≡ true) × (i
 unfolding infoFits
 reply-infos = (refl, refl, refl, refl, refl)
 
+-- a frame's payload, wherever bytes follow it
+pub part-back : (h : Header) (payload behind : List ℕ) → faultOf h ≡ 0 → h .size ≡ length payload → h .message .0 < 2 ^ 32 → (h .version ≡ 1 → h .message .0 ≡ 0)
+    → part (frameBytes h payload ++ behind) (extentOf h .start) (extentOf h .end - extentOf h .start) ≡ payload
+part-back h payload behind sound size low one =
+    let bytes : List ℕ = frameBytes h payload in
+    let l : laid bytes (bytes ++ behind) ≡ bytes ++ behind = ap (λ (x : List ℕ). bytes ++ x) (drop-at bytes behind (length bytes) refl) in
+    ap (λ (x : List ℕ). part x (extentOf h .start) (extentOf h .end - extentOf h .start)) (sym l) ∙ laid-arrives h payload (bytes ++ behind) sound size low one .payload
+
 module _ (v : ℕ) (service : ServiceType) (info session : ℕ) (payload : List ℕ)
     (least : 1 ≤ v) (most : v ≤ 5) (listed : listedService service ≡ true) (fits : infoFits 0 info ≡ true) (short : length payload ≤ 1488) where
   -- a version 1 header has no message id: it reads as 0
@@ -93,11 +101,8 @@ module _ (v : ℕ) (service : ServiceType) (info session : ℕ) (payload : List 
         read = λ behind. reply-reads v service info session payload least most listed fits short message behind small;
         consumed = reply-consumed v service info session payload least most listed fits short message;
         part-is = λ behind.
-            let bytes : List ℕ = frameBytes h payload in
-            let l : laid bytes (bytes ++ behind) ≡ bytes ++ behind = ap (λ (x : List ℕ). bytes ++ x) (drop-at bytes behind (length bytes) refl) in
             ap (λ (x : List ℕ). part (x ++ behind) (extentOf h .start) (extentOf h .end - extentOf h .start)) same
-            ∙ ap (λ (x : List ℕ). part x (extentOf h .start) (extentOf h .end - extentOf h .start)) (sym l)
-            ∙ laid-arrives h payload (bytes ++ behind) (reply-sound v service info session payload least most listed fits short (h .message .0)) refl low one .payload;
+            ∙ part-back h payload behind (reply-sound v service info session payload least most listed fits short (h .message .0)) refl low one;
       }
 
 pub rpc-listed : listedService rpc ≡ true
