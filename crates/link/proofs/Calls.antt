@@ -131,11 +131,11 @@ named q i h e f t = sym (session-fourth (q .input) h e f ∙ eqb-true (getD (q .
     second false b u = absurd u
 
 -- tests that two and three choices share
-pub two-unless : {A B : Type 0} (P : A → B → Type 0) (b : Bool) (x y : A) (u v : B) → (b ≡ false → P x u) → (b ≡ true → P y v) → P (unless b x y) (unless b u v)
+two-unless : {A B : Type 0} (P : A → B → Type 0) (b : Bool) (x y : A) (u v : B) → (b ≡ false → P x u) → (b ≡ true → P y v) → P (unless b x y) (unless b u v)
 two-unless P true x y u v f g = g refl
 two-unless P false x y u v f g = f refl
 
-pub three-by : {A B C : Type 0} (P : A → B → C → Type 0) (b : Bool) (x y : A) (u v : B) (s t : C) → (b ≡ true → P x u s) → (b ≡ false → P y v t) → P (pick b x y) (pick b u v) (pick b s t)
+three-by : {A B C : Type 0} (P : A → B → C → Type 0) (b : Bool) (x y : A) (u v : B) (s t : C) → (b ≡ true → P x u s) → (b ≡ false → P y v t) → P (pick b x y) (pick b u v) (pick b s t)
 three-by P true x y u v s t f g = f refl
 three-by P false x y u v s t f g = g refl
 
