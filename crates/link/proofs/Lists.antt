@@ -6,25 +6,19 @@ use mathlib.Core.Bool.{Bool, true, false, not, _&&_}
 use mathlib.Core.Option.{some}
 use mathlib.Core.List.{List, [], _∷_, _++_, map, append-assoc}
 use lib.Dec.{T}
+use lib.Ieee.Bits.{is-true, is-false}
 use Rattle.numbers.specs.Bytes.{pick}
+use Rattle.numbers.proofs.Choices.{either, onTest}
 use Rattle.blocks.specs.Map.{heldByAll, freeIn}
 use Rattle.session.specs.declared.Row.{Row}
 use Rattle.link.specs.Book.{Command, call, Event, opening, isAccepted, isAck, Page, Book, emptyBook, there, lowestIn, needsOf, bookAfter, bookOf, dueOf, names, closes, shuts, untilClosed, naming, ownOf, ModestIn, Modest}
 use Rattle.link.specs.Claim.{State, stateAfter, eventOf, run, endOf, commandOf, isOpen, blocksOf, DeliversDue, AllDelivered, opensIt, Demand}
 use Rattle.link.specs.Pages.{rowOf, pages, Sane}
 
--- cases on a test, with what it says: the motive has the test's value for a variable
-onTest : (P : Bool → Type 0) (b : Bool) → (T b → P true) → (T (not b) → P false) → P b
-onTest P true f g = f tt
-onTest P false f g = g tt
-
-split : {P : Type 0} (b : Bool) → (T b → P) → (T (not b) → P) → P
+-- cases on a test, with what it says
+split : {X : Type 0} (b : Bool) → (T b → X) → (T (not b) → X) → X
 split true f g = f tt
 split false f g = g tt
-
-byTest : {X : Type 0} (P : X → Type 0) (b : Bool) (x y : X) → (T b → P x) → (T (not b) → P y) → P (pick b x y)
-byTest P true x y f g = f tt
-byTest P false x y f g = g tt
 
 -- a session in two states: one row, one page
 pub record Alike (i : ℕ) (s₁ s₂ : State) : Type 0 where
@@ -65,20 +59,13 @@ event-command s (call q) = refl
 
 own-other : (i : ℕ) (e : Event) (l : List Event) → T (not (names i (e .command))) → ownOf i (e ∷ l) ≡ ownOf i l
 unfolding ownOf untilClosed naming shuts
-own-other i e l t =
-    let x : Bool = closes (e .command) (e .answer) in
-    onTest (λ (n : Bool). T (not n) → pick n (e ∷ naming i (pick (n && x) [] (untilClosed i l))) (naming i (pick (n && x) [] (untilClosed i l))) ≡ naming i (untilClosed i l))
-    (names i (e .command)) (λ _ z. absurd z) (λ _ z. refl) t
+own-other i e l t = rw (is-false (names i (e .command)) t)
 
 own-mine : (i : ℕ) (e : Event) (l : List Event) → T (names i (e .command)) → ownOf i (e ∷ l) ≡ e ∷ pick (shuts i e) [] (ownOf i l)
 unfolding ownOf untilClosed naming
 own-mine i e l t =
-    onTest (λ (n : Bool). T n → pick n (e ∷ naming i (pick (shuts i e) [] (untilClosed i l))) (naming i (pick (shuts i e) [] (untilClosed i l))) ≡ e ∷ pick (shuts i e) [] (naming i (untilClosed i l)))
-    (names i (e .command)) (λ _ _. ap (λ (y : List Event). e ∷ y) (naming-pick (shuts i e))) (λ _ z. absurd z) t
-  where
-    naming-pick : (b : Bool) → naming i (pick b [] (untilClosed i l)) ≡ pick b [] (naming i (untilClosed i l))
-    naming-pick true = refl
-    naming-pick false = refl
+    rw (is-true (names i (e .command)) t)
+    (ap (λ (y : List Event). e ∷ y) (onTest (λ (b : Bool). naming i (pick b [] (untilClosed i l)) ≡ pick b [] (naming i (untilClosed i l))) (shuts i e) (λ _. refl) (λ _. refl)))
 
 run-append : (s : State) (a b : List Command) → run s (a ++ b) ≡ run s a ++ run (endOf s a) b
 unfolding run endOf
@@ -132,11 +119,8 @@ module _ (L : Laws) where
       (same-cons i s₂ e (pick (shuts i e) [] l) g₂
       (subst (λ (x : Command). (T (names i x) → ModestIn (pages s₂ i) x (eventOf s₂ x .answer)) → (eventOf s₂ x ≡ e) × Same i (stateAfter s₂ x) (pick (shuts i e) [] l)) (sym ec) (λ m. (
         L .same-answer s₁ s₂ c i g₁ g₂ k t (m t),
-        byTest (Same i (stateAfter s₂ c)) (shuts i e) [] l (λ _ _. empty-run (stateAfter s₂ c)) (λ n. ih (L .same-after s₁ s₂ c i g₁ g₂ k t (m t) n)),
+        either (Same i (stateAfter s₂ c)) (shuts i e) [] l (λ _ _. refl) (λ n. ih (L .same-after s₁ s₂ c i g₁ g₂ k t (m t) (subst (λ (b : Bool). T (not b)) (sym n) tt))),
       ))))
-    where
-      empty-run : (s : State) → run s [] ≡ []
-      empty-run s = refl
 
   apart : (s₁ s₂ : State) (i : ℕ) (cs : List Command) → Sane s₁ → Sane s₂ → Alike i s₁ s₂ → Same i s₂ (ownOf i (run s₁ cs))
   unfolding ownOf run untilClosed naming
