@@ -77,18 +77,6 @@ unfolding endOf
 end-append s [] b = refl
 end-append s (c ∷ a) b = end-append (stateAfter s c) a b
 
-run-cons : (s : State) (c : Command) (cs : List Command) → run s (c ∷ cs) ≡ eventOf s c ∷ run (stateAfter s c) cs
-unfolding run
-run-cons s c cs = refl
-
-run-none : (s : State) (c : Command) → eventOf s c ∷ run (stateAfter s c) [] ≡ eventOf s c ∷ []
-unfolding run
-run-none s c = refl
-
-end-one : (s : State) (c : Command) → endOf s (c ∷ []) ≡ stateAfter s c
-unfolding endOf
-end-one s c = refl
-
 module _ (L : Laws) where
   -- run again alone, a session's own calls give the same events
   abbrev Same : ℕ → State → List Event → Type 0
@@ -160,41 +148,41 @@ module _ (L : Laws) where
     subst (λ (b : Book). AllDelivered b (run (stateAfter s c) cs)) (sym (noted-next s c k)) (all-delivered (stateAfter s c) cs (L .sane s c k)),
   )
 
-  -- the demand, from any state within the rules whose book is empty
-  pub demanded : (s₀ : State) → Sane s₀ → pages s₀ ≡ emptyBook → (cs : List Command) → Demand s₀ cs
-  demanded s₀ k₀ e₀ cs =
-      let shows : (l : List Command) → bookOf emptyBook (run s₀ l) ≡ pages (endOf s₀ l) = λ l. ap (λ (b : Book). bookOf b (run s₀ l)) (sym e₀) ∙ book-agrees s₀ l k₀ in
-      let k : Sane (endOf s₀ cs) = all-sane s₀ cs k₀ in
-      record {
-        sessions = λ i. L .shown (endOf s₀ cs) i k ∙ ap (λ (b : Book). there (b i)) (sym (shows cs));
-        room = λ i p q. L .holds (endOf s₀ cs) i p k (ap (λ (b : Book). b i) (sym (shows cs)) ∙ q);
-        blocks = L .all-blocks (endOf s₀ cs) k;
-        delivered = subst (λ (b : Book). AllDelivered b (run s₀ cs)) e₀ (all-delivered s₀ cs k₀);
-        isolated = λ before rest o q v a m. alone before rest o v a shows m;
-      }
-    where
-      alone : (before rest : List Command) (o : Command) → opensIt o ≡ opening → T (isAck (eventOf (endOf s₀ before) o .answer))
-          → ((l : List Command) → bookOf emptyBook (run s₀ l) ≡ pages (endOf s₀ l))
-          → (let i : ℕ = lowestIn (bookOf emptyBook (run s₀ before)) 255 1 in
-          let s₁ : State = stateAfter (endOf s₀ before) o in
-          let own : List Event = ownOf i (run s₁ rest) in
-          Modest i (bookOf emptyBook (run s₀ (before ++ o ∷ []))) (run s₁ (map commandOf own))
-          → run s₀ (before ++ o ∷ map commandOf own) ≡ run s₀ (before ++ o ∷ []) ++ own)
-      alone before rest o v a shows m =
-          let s : State = endOf s₀ before in
-          let s₁ : State = stateAfter s o in
-          let ks : Sane s = all-sane s₀ before k₀ in
-          let k₁ : Sane s₁ = L .sane s o ks in
-          let i : ℕ = lowestIn (bookOf emptyBook (run s₀ before)) 255 1 in
-          let is : lowestIn (pages s) 255 1 ≡ i = ap (λ (b : Book). lowestIn b 255 1) (sym (shows before)) in
-          let r = L .opens s o ks v a in
-          let row : rowOf s₁ i ≡ some (r .0) = ap (λ (j : ℕ). rowOf s₁ j) (sym is) ∙ r .1 in
-          let s₁-is : endOf s₀ (before ++ o ∷ []) ≡ s₁ = end-append s₀ before (o ∷ []) ∙ end-one s o in
-          let own : List Event = ownOf i (run s₁ rest) in
-          let b₁ : bookOf emptyBook (run s₀ (before ++ o ∷ [])) ≡ pages s₁ = shows (before ++ o ∷ []) ∙ ap pages s₁-is in
-          let again : run s₁ (map commandOf own) ≡ own
-          = apart s₁ s₁ i rest k₁ k₁ (record { the-row = r .0; row₁ = row; row₂ = row; page = refl; version = refl; mtu = refl }) (subst (λ (b : Book). Modest i b (run s₁ (map commandOf own))) b₁ m) in
-          run-append s₀ before (o ∷ map commandOf own)
-          ∙ ap (λ (y : List Event). run s₀ before ++ y) (run-cons s o (map commandOf own) ∙ ap (λ (y : List Event). eventOf s o ∷ y) again)
-          ∙ sym (ap (λ (y : List Event). y ++ own) (run-append s₀ before (o ∷ []) ∙ ap (λ (y : List Event). run s₀ before ++ y) (run-cons s o [] ∙ run-none s o))
-          ∙ append-assoc (run s₀ before) (eventOf s o ∷ []) own)
+  -- from any state within the rules whose book is empty
+  module _ (s₀ : State) (k₀ : Sane s₀) (e₀ : pages s₀ ≡ emptyBook) where
+    shows : (l : List Command) → bookOf emptyBook (run s₀ l) ≡ pages (endOf s₀ l)
+    shows l = ap (λ (b : Book). bookOf b (run s₀ l)) (sym e₀) ∙ book-agrees s₀ l k₀
+
+    alone : (before rest : List Command) (o : Command) → opensIt o ≡ opening → T (isAck (eventOf (endOf s₀ before) o .answer))
+        → (let i : ℕ = lowestIn (bookOf emptyBook (run s₀ before)) 255 1 in
+        let s₁ : State = stateAfter (endOf s₀ before) o in
+        let own : List Event = ownOf i (run s₁ rest) in
+        Modest i (bookOf emptyBook (run s₀ (before ++ o ∷ []))) (run s₁ (map commandOf own))
+        → run s₀ (before ++ o ∷ map commandOf own) ≡ run s₀ (before ++ o ∷ []) ++ own)
+    unfolding run endOf
+    alone before rest o v a m =
+        let s : State = endOf s₀ before in
+        let s₁ : State = stateAfter s o in
+        let ks : Sane s = all-sane s₀ before k₀ in
+        let k₁ : Sane s₁ = L .sane s o ks in
+        let i : ℕ = lowestIn (bookOf emptyBook (run s₀ before)) 255 1 in
+        let r = L .opens s o ks v a in
+        let row : rowOf s₁ i ≡ some (r .0) = ap (λ (b : Book). rowOf s₁ (lowestIn b 255 1)) (shows before) ∙ r .1 in
+        let own : List Event = ownOf i (run s₁ rest) in
+        let b₁ : bookOf emptyBook (run s₀ (before ++ o ∷ [])) ≡ pages s₁ = shows (before ++ o ∷ []) ∙ ap pages (end-append s₀ before (o ∷ [])) in
+        let again : run s₁ (map commandOf own) ≡ own
+        = apart s₁ s₁ i rest k₁ k₁ (record { the-row = r .0; row₁ = row; row₂ = row; page = refl; version = refl; mtu = refl }) (subst (λ (b : Book). Modest i b (run s₁ (map commandOf own))) b₁ m) in
+        run-append s₀ before (o ∷ map commandOf own) ∙ ap (λ (y : List Event). run s₀ before ++ eventOf s o ∷ y) again
+        ∙ sym (ap (λ (y : List Event). y ++ own) (run-append s₀ before (o ∷ [])) ∙ append-assoc (run s₀ before) (eventOf s o ∷ []) own)
+
+    -- the demand
+    pub demanded : (cs : List Command) → Demand s₀ cs
+    demanded cs =
+        let k : Sane (endOf s₀ cs) = all-sane s₀ cs k₀ in
+        record {
+          sessions = λ i. L .shown (endOf s₀ cs) i k ∙ ap (λ (b : Book). there (b i)) (sym (shows cs));
+          room = λ i p q. L .holds (endOf s₀ cs) i p k (ap (λ (b : Book). b i) (sym (shows cs)) ∙ q);
+          blocks = L .all-blocks (endOf s₀ cs) k;
+          delivered = subst (λ (b : Book). AllDelivered b (run s₀ cs)) e₀ (all-delivered s₀ cs k₀);
+          isolated = λ before rest o q v a m. alone before rest o v a m;
+        }
