@@ -1,6 +1,6 @@
 -- The table of rows: where an id stands, and what storing a row at an index does to ids, sums, tests and the lowest free id. For any rows.
 -- By induction along the list; the last by counting the ids that rows can take. Assumes nothing.
-use Prim.Native.Nat.{ℕ, zero, suc, _+_, _-_, _≤_, _<_, max}
+use Prim.Native.Nat.{ℕ, zero, suc, _+_, _-_, _≤_, _<_, max, min}
 use mathlib.Core.Path.{_≡_, refl, ap, sym, subst, _∙_}
 use mathlib.Core.Logic.{_≢_}
 use mathlib.Core.Bool.{Bool, true, _||_}
@@ -194,67 +194,41 @@ pub lowest-none : (k : ℕ) (rs : List Row) → lowestFree 0 k rs ≡ 0
 unfolding lowestFree
 lowest-none k rs = refl
 
--- 1 for an id in a row; how many of so many ids from k on are
-abbrev inRow : ℕ → List Row → ℕ
-inRow k rs = pick (eqb (indexOf k rs) (length rs)) 0 1
+-- how many rows have an id of k or more
+unfoldable above : ℕ → List Row → ℕ
+above k [] = 0
+above k (r ∷ rs) = min 1 (suc (r .id .0) - k) + above k rs
 
-unfoldable taken : ℕ → ℕ → List Row → ℕ
-taken zero k rs = 0
-taken (suc n) k rs = inRow k rs + taken n (suc k) rs
+above-most : (k : ℕ) (rs : List Row) → above k rs ≤ length rs
+unfolding above
+above-most k [] = omega arith
+above-most k (r ∷ rs) = omega (arith, above-most k rs)
 
-in-no-row : (k : ℕ) (rs : List Row) → indexOf k rs ≡ length rs → inRow k rs ≡ 0
-in-no-row k rs e = ap (λ (t : Bool). pick {A = ℕ} t 0 1) (eq-eqb (indexOf k rs) (length rs) e)
+above-less : (k : ℕ) (rs : List Row) → above (suc k) rs ≤ above k rs
+unfolding above
+above-less k [] = omega arith
+above-less k (r ∷ rs) = omega (arith, above-less k rs)
 
-in-a-row : (k : ℕ) (rs : List Row) → indexOf k rs ≢ length rs → inRow k rs ≡ 1
-in-a-row k rs h = ap (λ (t : Bool). pick {A = ℕ} t 0 1) (ne-eqb (indexOf k rs) (length rs) h)
-
-in-one : (k : ℕ) (rs : List Row) → inRow k rs ≤ 1
-in-one k rs = same-or-not (indexOf k rs) (length rs) (λ e. omega (arith, in-no-row k rs e)) (λ n. omega (arith, in-a-row k rs n))
-
--- a row with another id is none for this one
-in-rest : (k : ℕ) (r : Row) (rs : List Row) → r .id .0 ≢ k → inRow k (r ∷ rs) ≡ inRow k rs
-in-rest k r rs n =
-    same-or-not (indexOf k rs) (length rs)
-    (λ e. in-no-row k (r ∷ rs) (index-later k r rs n ∙ ap suc e) ∙ sym (in-no-row k rs e))
-    (λ h. in-a-row k (r ∷ rs) (λ e. h (omega (arith, index-later k r rs n))) ∙ sym (in-a-row k rs h))
-
--- so each row takes one id at most
-taken-past : (n k : ℕ) (r : Row) (rs : List Row) → r .id .0 < k → taken n k (r ∷ rs) ≤ taken n k rs
-unfolding taken
-taken-past zero k r rs h = omega arith
-taken-past (suc n) k r rs h = omega (arith, in-rest k r rs (λ e. omega arith), taken-past n (suc k) r rs (omega arith))
-
-taken-row : (n k : ℕ) (r : Row) (rs : List Row) → taken n k (r ∷ rs) ≤ suc (taken n k rs)
-unfolding taken
-taken-row zero k r rs = omega arith
-taken-row (suc n) k r rs =
-    same-or-not (r .id .0) k
-    (λ e. omega (arith, in-one k (r ∷ rs), taken-past n (suc k) r rs (omega arith)))
-    (λ h. omega (arith, in-rest k r rs h, taken-row n (suc k) r rs))
-
-taken-empty : (n k : ℕ) → taken n k [] ≡ 0
-unfolding taken
-taken-empty zero k = refl
-taken-empty (suc n) k = omega (arith, in-no-row k [] (index-none k), taken-empty n (suc k))
-
-taken-most : (n k : ℕ) (rs : List Row) → taken n k rs ≤ length rs
-taken-most n k [] = omega (arith, taken-empty n k)
-taken-most n k (r ∷ rs) = omega (arith, taken-row n k r rs, taken-most n k rs)
+-- an id in a row takes one of them
+above-one : (k : ℕ) (rs : List Row) → indexOf k rs ≢ length rs → suc (above (suc k) rs) ≤ above k rs
+unfolding above
+above-one k [] h = absurd (h (index-none k))
+above-one k (r ∷ rs) h =
+    same-or-not (r .id .0) k (λ e. omega (arith, above-less k rs)) (λ n. omega (arith, above-one k rs (λ e. h (index-later k r rs n ∙ ap suc e))))
 
 -- where none is found, each is in a row
-taken-all : (n k : ℕ) (rs : List Row) → 0 < k → lowestFree n k rs ≡ 0 → taken n k rs ≡ n
-unfolding taken
-taken-all zero k rs h e = refl
-taken-all (suc n) k rs h e =
+none-free : (n k : ℕ) (rs : List Row) → 0 < k → lowestFree n k rs ≡ 0 → n ≤ above k rs
+none-free zero k rs h e = omega arith
+none-free (suc n) k rs h e =
     same-or-not (indexOf k rs) (length rs)
     (λ q. absurd (omega (arith, lowest-here n k rs q)))
-    (λ q. omega (arith, in-a-row k rs q, taken-all n (suc k) rs (omega arith) (sym (lowest-later n k rs q) ∙ e)))
+    (λ q. omega (arith, above-one k rs q, none-free n (suc k) rs (omega arith) (sym (lowest-later n k rs q) ∙ e)))
 
 -- with more ids than rows, one is found
 pub lowest-some : (n k : ℕ) (rs : List Row) → 0 < k → length rs < n → 0 < lowestFree n k rs
 lowest-some n k rs h s =
     same-or-not (lowestFree n k rs) 0
-    (λ e. absurd (omega (arith, taken-all n k rs h e, taken-most n k rs)))
+    (λ e. absurd (omega (arith, none-free n k rs h e, above-most k rs)))
     (λ q. omega arith)
 
 -- what is found: it is among those tried, no row has it, and each before it is in a row
