@@ -1,7 +1,7 @@
 -- The book after a call is the state's, session by session: the call's own session by its decision, an opening by its new row, and every
 -- other one because nothing of it is touched.
 -- Assumes nothing.
-use Prim.Native.Nat.{ℕ, _-_}
+use Prim.Native.Nat.{ℕ, _-_, _≤_}
 use mathlib.Core.Path.{_≡_, refl, ap, _∙_, sym, subst, fun-ext}
 use mathlib.Core.Logic.{_⊎_, ⊎-elim}
 use mathlib.Core.Bool.{Bool, true, false}
@@ -23,7 +23,7 @@ use Rattle.link.specs.declared.Grant.{Grant}
 use Rattle.link.specs.declared.Answer.the-variants as answer
 use Rattle.link.specs.State.{indexOf, withRow, withOwners}
 use Rattle.link.specs.Call.{After, admits, decisionOf, applied}
-use Rattle.link.specs.Book.{Request, Command, call, Ask, single, first, next, end, other, Seen, opening, within, nothing, askOf, Page, Book, written, lowestIn, newPage, pageAfterIf, noted, bookAfter}
+use Rattle.link.specs.Book.{Request, Command, call, Ask, end, Seen, opening, within, nothing, askOf, Page, Book, written, lowestIn, newPage, pageAfterIf, noted, bookAfter}
 use Rattle.link.specs.Claim.{State, stateAfter, eventOf, isOpen}
 use Rattle.link.specs.Pages.{noteOf, notesFrom, pageOf, pageIf, pages, Sane}
 use Rattle.link.proofs.Table.{index-below, missing-set}
@@ -33,7 +33,7 @@ use Rattle.link.proofs.RowFacts.{open-facts}
 use Rattle.link.proofs.Others.{after-id, moves, applied-leaves, entered-leaves}
 use Rattle.link.proofs.Opens.{lowest-same, entered-row}
 use Rattle.link.proofs.Shown.{is-open, page-of, closed-page, missing-closed}
-use Rattle.link.proofs.PageAfter.{tells}
+use Rattle.link.proofs.PageAfter.{refused-page, tells}
 
 -- the book with a page, at each id
 written-at : (b c : Book) (i : ℕ) (p : Option Page) → p ≡ c i → ((j : ℕ) → (i ≡ j → ⊥) → b j ≡ c j) → (j : ℕ) → written b i p j ≡ c j
@@ -41,14 +41,10 @@ written-at b c i p e f j =
     onTest (λ (t : Bool). eqb i j ≡ t → pick t p (b j) ≡ c j) (eqb i j)
     (λ _ u. e ∙ ap c (eqb-true i j u)) (λ _ u. f j (eqb-false i j u)) refl
 
--- refusals but 24 and 25 leave the book
-refused-page : (p : Option Page) (ask : Ask) (c : ℕ) → (c ≡ 24 → ⊥) → (c ≡ 25 → ⊥) → pageAfterIf p ask (answer.Refused c) ≡ p
-refused-page none ask c a b = refl
-refused-page (some p) (single x) c a b = refl
-refused-page (some p) (first place id total count) c a b = refl
-refused-page (some p) (next place id x) c a b = rw (ne-eqb c 24 a, ne-eqb c 25 b)
-refused-page (some p) (end place) c a b = refl
-refused-page (some p) other c a b = refl
+-- refusals but 24 and 25 leave the page
+refused-if : (p : Option Page) (ask : Ask) (c : ℕ) → c ≤ 23 → pageAfterIf p ask (answer.Refused c) ≡ p
+refused-if none ask c b = refl
+refused-if (some p) ask c b = refused-page p ask c b
 
 module _ (s : State) (k : Sane s) where
   abbrev after : After → State
@@ -57,11 +53,6 @@ module _ (s : State) (k : Sane s) where
   -- the book after a call, at each id
   abbrev Tells : Grant → Seen → After → Type 0
   Tells g x w = (j : ℕ) → noted (pages s) g (w .answer) x j ≡ pages (after w) j
-
-  not-noted : (g : Grant) (x : Seen) (c : ℕ) (out : List ℕ) → (c ≡ 24 → ⊥) → (c ≡ 25 → ⊥) → Tells g x (record { answer = answer.Refused c; link = s .link; pool = s .pool; out = out })
-  not-noted g opening c out a b = λ j. refl
-  not-noted g (within i ask) c out a b = written-at (pages s) (pages s) i _ (refused-page (pages s i) ask c a b) (λ j _. refl)
-  not-noted g nothing c out a b = λ j. refl
 
   -- ---- sessions that a call does not name
 
@@ -117,7 +108,9 @@ module _ (s : State) (k : Sane s) where
     -- every call is noted as it is
     call-tells : {x : Seen} {w : After} → Called (s .link) (s .pool) (q .input) (q .out) (q .grant) x w → Tells (q .grant) x w
     call-tells short = λ j. refl
-    call-tells (refused {x = x} {n = n} b) = not-noted (q .grant) x n (q .out) (λ z. omega arith) (λ z. omega arith)
+    call-tells (refused {x = opening} b) = λ j. refl
+    call-tells (refused {x = within i ask} b) = written-at (pages s) (pages s) i _ (refused-if (pages s i) ask _ b) (λ j _. refl)
+    call-tells (refused {x = nothing} b) = λ j. refl
     call-tells nacked = λ j. refl
     call-tells (acked t a v) = enters _ a
     call-tells (in-row h e f t b a) =

@@ -2,7 +2,7 @@
 -- Assumes nothing.
 use mathlib.Core.Path.{_≡_, refl, sym, ap, ap₂, subst, _∙_}
 use Prim.Native.Nat.{ℕ, _+_, _≤_}
-use mathlib.Core.Bool.{Bool, true, false, not, _&&_}
+use mathlib.Core.Bool.{Bool, true, false, not}
 use mathlib.Core.Option.{some}
 use mathlib.Core.List.{List, [], _∷_, _++_, map, append-assoc}
 use lib.Dec.{T}
@@ -11,7 +11,7 @@ use Rattle.numbers.specs.Bytes.{pick}
 use Rattle.numbers.proofs.Choices.{either, onTest}
 use Rattle.blocks.specs.Map.{heldByAll, freeIn}
 use Rattle.session.specs.declared.Row.{Row}
-use Rattle.link.specs.Book.{Command, call, Event, opening, isAccepted, isAck, Page, Book, emptyBook, there, lowestIn, needsOf, bookAfter, bookOf, dueOf, names, closes, shuts, untilClosed, naming, ownOf, ModestIn, Modest}
+use Rattle.link.specs.Book.{Command, call, Event, opening, isAccepted, isAck, Page, Book, emptyBook, there, lowestIn, needsOf, bookAfter, bookOf, dueOf, names, shuts, untilClosed, naming, ownOf, ModestIn, Modest}
 use Rattle.link.specs.Claim.{State, stateAfter, eventOf, run, endOf, commandOf, isOpen, blocksOf, DeliversDue, AllDelivered, opensIt, Demand}
 use Rattle.link.specs.Pages.{rowOf, pages, Sane}
 

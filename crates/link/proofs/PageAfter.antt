@@ -21,9 +21,10 @@ use Rattle.blocks.proofs.Contents.{append-others, claim-bytes, release-bytes}
 use Rattle.session.specs.declared.Reassembly.{Reassembly}
 use Rattle.session.specs.declared.Row.{Row}
 use Rattle.session.specs.declared.Act.{Act}
-use Rattle.session.specs.declared.Act.the-variants.{Refuse, Drop, Claim, Append, Deliver}
+use Rattle.session.specs.declared.Act.the-variants.{Drop, Claim, Append, Deliver}
 use Rattle.session.specs.Rows.{noRow, freeRow, noReassembly, messageAt, announced, shortened, droppedRow}
 use Rattle.session.specs.Decide.{placeOf, needOf, sized, rowAfter}
+use Rattle.link.specs.declared.Answer.the-variants as answer
 use Rattle.link.specs.State.{indexOf, ownerOf, withRow, withOwners}
 use Rattle.link.specs.Call.{After, applied}
 use Rattle.link.specs.Book.{Request, Ask, single, first, next, end, other, Note, noNote, Page, noteAt, withNote, isUnder, added, struck, pageAfter}
@@ -77,6 +78,14 @@ announced-note t n place id total count =
     let a : count - count ≡ 0 = omega arith in
     let b : total - total ≡ 0 = omega arith in
     rw (a, b)
+
+-- refusals but 24 and 25 are not noted
+pub refused-page : (p : Page) (ask : Ask) (c : ℕ) → c ≤ 23 → pageAfter p ask (answer.Refused c) ≡ some p
+refused-page p (single x) c b = refl
+refused-page p (first place id total count) c b = refl
+refused-page p (next place id x) c b = rw (ne-eqb c 24 (λ e. omega arith), ne-eqb c 25 (λ e. omega arith))
+refused-page p (end place) c b = refl
+refused-page p other c b = refl
 
 -- a frame is no longer than what is missing
 sized-most : (m : Reassembly) (size : ℕ) → sized m size ≡ true → size ≤ m .missing
@@ -261,17 +270,9 @@ module _ (s : State) (i : ℕ) (k : Sane s) (opened : isOpen s i ≡ true) where
         let under : isUnder (noteAt page place) (h .message .0) ≡ true = ap (λ (x : Note). isUnder x (h .message .0)) (met (o .live)) ∙ eq-eqb (m .id .0) (h .message .0) (sym (o .same)) in
         rw (z, under) (sym (dropped (s .pool) (λ _ _. refl) (droppedRow r place) drop-sizes))
 
-    -- refusals but 24 and 25 are not noted
-    refuse-tells : (ask : Ask) (c : ℕ) → (c ≡ 24 → ⊥) → (c ≡ 25 → ⊥) → Tells ask (Refuse c)
-    refuse-tells (single x) c a b = sym open-page
-    refuse-tells (first p id total count) c a b = sym open-page
-    refuse-tells (next p id x) c a b = rw (ne-eqb c 24 a, ne-eqb c 25 b) (sym open-page)
-    refuse-tells (end p) c a b = sym open-page
-    refuse-tells other c a b = sym open-page
-
     -- every decision is noted as it is
     pub tells : {ask : Ask} {act : Act} → Decided (s .link) n h payload ask act → Tells ask act
-    tells {ask} (refuses {n = c} b) = refuse-tells ask c (λ e. omega arith) (λ e. omega arith)
+    tells {ask} (refuses {n = c} b) = refused-page page ask c b ∙ sym open-page
     tells accepts = sym open-page
     tells beats = sym open-page
     tells starts = sym (same-page _ (service-sizes r (h .service) _))

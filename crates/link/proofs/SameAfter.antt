@@ -28,7 +28,7 @@ use Rattle.link.specs.declared.Grant.{Grant}
 use Rattle.link.specs.declared.Answer.{Answer}
 use Rattle.link.specs.State.{indexOf}
 use Rattle.link.specs.Call.{After, opens}
-use Rattle.link.specs.Book.{Request, Command, call, Event, Ask, single, first, next, end, other, Seen, opening, within, nothing, askOf, seenIn, seenOf, isAck, Page, Book, there, pageAfter, pageAfterIf, noted, bookAfter, names, endsRpc, closes, shuts, ModestOn, ModestIn}
+use Rattle.link.specs.Book.{Request, Command, call, Event, Ask, single, first, next, end, other, Seen, opening, within, nothing, askOf, seenIn, seenOf, isAck, Page, Book, there, pageAfterIf, noted, bookAfter, names, endsRpc, closes, shuts, ModestOn, ModestIn}
 use Rattle.link.specs.Claim.{State, stateAfter, eventOf, isOpen}
 use Rattle.link.specs.Pages.{rowOf, pages, Sane}
 use Rattle.link.proofs.Shown.{shown, row-open, row-is}
@@ -44,21 +44,15 @@ use Rattle.link.proofs.Lists.{Alike}
 -- ---- the book at one session
 
 -- a page stays unless an End's ACK closes the session
-stays-there : (p : Page) (ask : Ask) (a : Answer) (i : ℕ) → isAck a && endsRpc (within i ask) ≡ false → there (pageAfter p ask a) ≡ true
-stays-there p (single x) a i e = refl
-stays-there p (first place id total count) a i e = refl
-stays-there p (next place id x) a i e = refl
-stays-there p (end place) a i e = go (isAck a) (eqb place 1) _ p e
-  where
-    go : (b c : Bool) (x y : Page) → b && c ≡ false → there (pick b (pick c none (some x)) (some y)) ≡ true
-    go true true x y f = absurd (true≢false f)
-    go true false x y f = refl
-    go false c x y f = refl
-stays-there p other a i e = refl
-
-if-there : (o : Option Page) (ask : Ask) (a : Answer) (i : ℕ) → there o ≡ true → isAck a && endsRpc (within i ask) ≡ false → there (pageAfterIf o ask a) ≡ true
-if-there none ask a i t e = absurd (true≢false (sym t))
-if-there (some p) ask a i t e = stays-there p ask a i e
+stays-there : (o : Option Page) (ask : Ask) (a : Answer) (i : ℕ) → there o ≡ true → isAck a && endsRpc (within i ask) ≡ false → there (pageAfterIf o ask a) ≡ true
+stays-there none ask a i t e = absurd (true≢false (sym t))
+stays-there (some p) (single x) a i t e = refl
+stays-there (some p) (first place id total count) a i t e = refl
+stays-there (some p) (next place id x) a i t e = refl
+stays-there (some p) (end place) a i t e =
+    let P : Option Page → Type 0 = λ y. there y ≡ true in
+    either P (isAck a) _ _ (λ u. either P (eqb place 1) _ _ (λ v. absurd (true≢false (rw (u, v) at e))) (λ _. refl)) (λ _. refl)
+stays-there (some p) other a i t e = refl
 
 -- the session stays in the book
 book-there : (b : Book) (g : Grant) (a : Answer) (x : Seen) (i : ℕ) → there (b i) ≡ true → isAck a && endsRpc x ≡ false → there (noted b g a x i) ≡ true
@@ -66,7 +60,7 @@ book-there b g a opening i t e =
     either (λ (c : Book). there (c i) ≡ true) (isAck a) _ b (λ _. either (λ (o : Option Page). there o ≡ true) (eqb _ i) _ _ (λ _. refl) (λ _. t)) (λ _. t)
 book-there b g a (within j ask) i t e =
     either (λ (o : Option Page). there o ≡ true) (eqb j i) (pageAfterIf (b j) ask a) (b i)
-    (λ u. if-there (b j) ask a j (ap (λ (y : ℕ). there (b y)) (eqb-true j i u) ∙ t) e) (λ _. t)
+    (λ u. stays-there (b j) ask a j (ap (λ (y : ℕ). there (b y)) (eqb-true j i u) ∙ t) e) (λ _. t)
 book-there b g a nothing i t e = t
 
 -- books that agree at a session agree there after a frame of any session

@@ -59,11 +59,8 @@ helds-most [] = omega arith
 helds-most (a ∷ rs) = omega (arith, helds-most rs)
 
 -- what the rows hold, without one of them, is at most what the others' shares take
-pub helds-less : (rs : List Row) (i : ℕ) → i < length rs → heldsIn rs + shareOf (getD rs i noRow) ≤ sharesIn rs + heldOf (getD rs i noRow)
-unfolding heldsIn sharesIn
-helds-less [] i h = absurd (omega arith)
-helds-less (a ∷ rs) zero h = omega (arith, helds-most rs)
-helds-less (a ∷ rs) (suc i) h = omega (arith, helds-less rs i (omega arith))
+helds-less : (rs : List Row) (i : ℕ) → i < length rs → heldsIn rs + shareOf (getD rs i noRow) ≤ sharesIn rs + heldOf (getD rs i noRow)
+helds-less rs i h = omega (arith, helds-set rs i freeRow h, shares-set rs i freeRow h, helds-most (set rs i freeRow), free-held)
 
 owners-join : (first a b : ℕ) (map : List ℕ) → heldByAll first (a + b) map ≡ heldByAll first a map + heldByAll (first + a) b map
 unfolding heldByAll
@@ -107,16 +104,6 @@ forty major owners rs eight five e =
     let z : 5 * length rs ≡ 40 = omega arith in
     let o : heldByAll (ownerOf 0 0) (5 * length rs) owners ≡ heldsIn rs = rows-owned major owners 0 rs five e in
     rw (first-owner, z) at o
-
--- what a row claims within its room is free in the map
-pub claim-free : (major : ℕ) (owners : List ℕ) (rs : List Row) (i need : ℕ) → length rs ≡ 8 → FiveEach rs → i < length rs → allFrom 0 (rowFits major owners) rs ≡ true
-    → heldByAll 1 40 owners + freeIn owners ≡ 256
-    → sharesIn rs - shareOf (getD rs i noRow) + max (heldOf (getD rs i noRow) + need) (getD rs i noRow .guarantee) ≤ 256 → need ≤ freeIn owners
-claim-free major owners rs i need eight five h e all w =
-    let a : heldByAll 1 40 owners ≡ heldsIn rs = forty major owners rs eight five e in
-    let b = helds-less rs i h in
-    let c = share-below rs i h in
-    omega arith
 
 -- ---- a row put in another's place
 
@@ -218,7 +205,8 @@ module _ (s : State) (i n : ℕ) (k : Sane s) (f : OpenFacts s i n) where
       → Put s n after (claimed (ownerOf n place) need map)
   put-claimed {place} need below w x =
       let o : ℕ = ownerOf n place in
-      let free : need ≤ freeIn map = claim-free major map (s .link .rows) n need (k .rows) (k .five) (f .below) (rules .rows) (rules .blocks) w in
+      let all : heldByAll 1 40 map ≡ heldsIn (s .link .rows) = forty major map (s .link .rows) (k .rows) (k .five) (rules .rows) in
+      let free : need ≤ freeIn map = omega (arith, helds-less (s .link .rows) n (f .below), share-below (s .link .rows) n (f .below), rules .blocks) in
       put-kept (claimed o need map) below x (claim-length o need map)
       (λ j q h d. claim-leaves (ownerOf j q) o need map (owner-apart n j place q below h d) (owner-some j q))
       (omega (arith, claim-gives o need map (owner-some n place))) (omega (arith, claim-lowers o need map (owner-some n place)))
