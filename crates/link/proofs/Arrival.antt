@@ -225,10 +225,7 @@ module _ (o : Outgoing) (m : List ℕ) (cut : Cut o m) where
             let size : length piece ≡ o .chunk = chunk-size o m cut j inner in
             let a : c - j - 1 ≡ c - suc j = omega arith in
             let d : length m - j * o .chunk - length piece ≡ length m - suc j * o .chunk = omega (arith, chunk-next o m cut j) in
-            set-message r place _ (place-below (o .service .0)) five
-            ∙ ap (λ (x : Reassembly). shortened x (length piece)) (w .message)
-            ∙ ap (λ (x : ℕ). record { live = true; id = o .message; total = length m; count = c; frames = x; missing = length m - j * o .chunk - length piece }) a
-            ∙ ap (λ (x : ℕ). record { live = true; id = o .message; total = length m; count = c; frames = c - suc j; missing = x }) d
+            set-message r place _ (place-below (o .service .0)) five ∙ rw (w .message, a, d)
 
         shown-next : pages (stateAfter s (call q)) i ≡ some (withNote (w .page) place (so-far (suc j)))
         shown-next =
@@ -323,12 +320,10 @@ module _ (o : Outgoing) (m : List ℕ) (cut : Cut o m) where
 
     first-message : messageAt first-row place ≡ partly o m cut 0
     first-message =
-        let a : length m ≡ length m - 0 * o .chunk = omega arith in
-        let b : c ≡ c - 0 = omega arith in
+        let a : length m - 0 * o .chunk ≡ length m = omega arith in
+        let b : c - 0 ≡ c = omega arith in
         ap (λ (x : Sizes). getD (x .messages) place noReassembly) (settled-sizes (withMessageAt old place (announced (o .message) (length m) c)) (o .version))
-        ∙ set-message old place (announced (o .message) (length m) c) (place-below (o .service .0)) (open-facts s i k opened .five)
-        ∙ ap (λ (x : ℕ). record { live = true; id = o .message; total = length m; count = c; frames = c; missing = x }) a
-        ∙ ap (λ (x : ℕ). record { live = true; id = o .message; total = length m; count = c; frames = x; missing = length m - 0 * o .chunk }) b
+        ∙ set-message old place (announced (o .message) (length m) c) (place-below (o .service .0)) (open-facts s i k opened .five) ∙ rw (a, b)
 
     first-version : first-row .version ≡ o .version
     unfolding settledRow
