@@ -27,7 +27,7 @@ use Rattle.session.specs.declared.Reassembly.{Reassembly}
 use Rattle.session.specs.declared.Row.{Row}
 use Rattle.session.specs.declared.Act.{Act}
 use Rattle.session.specs.declared.Act.the-variants.{Refuse, Claim, Append, Deliver}
-use Rattle.session.specs.Rows.{noRow, noReassembly, messageAt, withMessageAt, settledRow, announced, shortened}
+use Rattle.session.specs.Rows.{noRow, noReassembly, messageAt, withMessageAt, settledRow, announced}
 use Rattle.session.specs.Rules.{versionFits, mtuFits, isRunning, serviceFits, commandFits, barredBy}
 use Rattle.session.specs.Decide.{placeOf, needOf, nextFor, contentOf, rowAfter}
 use Rattle.link.specs.declared.Link.{Link}

@@ -1,4 +1,4 @@
--- A test of a list, element by element: from the whole to one place and back, and after one element was set. For any list; by induction along it.
+-- A list, element by element: a test of all from the whole to one place and back, and tests and sums after one element was set. For any list; by induction along it.
 -- Assumes nothing.
 use mathlib.Core.Path.{_≡_, refl, sym, subst}
 use Prim.Native.Nat.{ℕ, zero, suc, _+_, _<_}
@@ -57,3 +57,10 @@ module _ {A : Type 0} where
       same-or-not k p
       (λ e. rw e (subst (P p) (sym (getD-set-same l p a d h)) q))
       (λ n. subst (P k) (sym (getD-set-other l p k a d n)) (f k i n))
+
+  -- a sum over a list, after one element was set
+  pub sum-set : (sum : List A → ℕ) (f : A → ℕ) → ((a : A) (l : List A) → sum (a ∷ l) ≡ f a + sum l)
+      → (l : List A) (k : ℕ) (a d : A) → k < length l → sum (set l k a) + f (getD l k d) ≡ sum l + f a
+  sum-set sum f c [] k a d h = absurd (omega arith)
+  sum-set sum f c (x ∷ l) zero a d h = omega (arith, c a l, c x l)
+  sum-set sum f c (x ∷ l) (suc k) a d h = omega (arith, c x (set l k a), c x l, sum-set sum f c l k a d (omega arith))

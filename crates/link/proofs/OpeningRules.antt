@@ -1,13 +1,13 @@
 -- An opening keeps the state rules: the new row stands in a free one's place, under an id that no row has, and holds nothing.
 -- Assumes nothing.
 use mathlib.Core.Path.{_≡_, refl, sym, ap, subst, _∙_}
-use Prim.Native.Nat.{ℕ, _+_, _≤_, _<_, min}
+use Prim.Native.Nat.{ℕ, _≤_, _<_, min}
 use native.Mathlib.Omega.{arith}
 use mathlib.Core.Bool.{true, false, _&&_, _||_, not}
 use mathlib.Core.List.{List}
-use lib.Dec.{eqb, ltb, leb}
+use lib.Dec.{eqb, leb}
 use lib.ListN.{length, getD, getD-replicate}
-use borrow.Author.Tests.{eq-eqb, leb-true, le-leb, ltb-true, not-true}
+use borrow.Author.Tests.{eq-eqb, leb-true, le-leb, not-true}
 use Rattle.numbers.proofs.Choices.{and-both, either}
 use Rattle.blocks.specs.Map.{heldBy as blocksOf}
 use Rattle.frame.specs.declared.SessionId.{SessionId}
@@ -17,12 +17,13 @@ use Rattle.session.specs.Rows.{noRow, noReassembly, openedRow, messageAt}
 use Rattle.session.specs.Decide.{heldBy, heldIn}
 use Rattle.link.specs.declared.Link.{Link}
 use Rattle.link.specs.declared.Grant.{Grant}
-use Rattle.link.specs.State.{all, indexOf, ownerOf, sharesIn, versionAllowed, blocksFit, freeFits, rowFits, rulesHold, grantFits, withRow, lowestFree}
+use Rattle.link.specs.State.{all, indexOf, ownerOf, versionAllowed, blocksFit, freeFits, rowFits, rulesHold, grantFits, withRow, lowestFree}
 use Rattle.link.specs.Call.{admits, oldVersion}
 use Rattle.link.specs.Pages.{FiveEach}
 use Rattle.link.proofs.Each.{all-at}
 use Rattle.link.proofs.Shown.{rules-say, say-rules}
 use Rattle.link.proofs.Table.{index-row, index-missing, shares-set, distinct-set, lowest-of-eight, lowest-between, opened-held}
+use Rattle.link.proofs.Calls.{admitted}
 use Rattle.link.proofs.Holdings.{five-at, row-fits-at, blocks-say, say-blocks}
 use Rattle.link.proofs.RowFacts.{runsAt, Fits, fits-none, RowFacts, facts-fit}
 use Rattle.link.proofs.RowRules.{held-idle}
@@ -66,7 +67,7 @@ free-blocks major owners k r z e q h =
 pub opened-rules : (l : Link) (g : Grant) (v : ℕ) → length (l .rows) ≡ 8 → FiveEach (l .rows) → rulesHold l ≡ true → grantFits g ≡ true → admits (l .rows) g ≡ true
     → versionAllowed (l .version .major) v ≡ true
     → rulesHold (withRow l (indexOf 0 (l .rows)) (openedRow (record { 0 = lowestFree 255 1 (l .rows) }) (g .guarantee) (g .cap) v (g .hash))) ≡ true
-unfolding grantFits admits
+unfolding grantFits
 opened-rules l g v eight five e f w a =
     let rs : List Row = l .rows in
     let k : ℕ = indexOf 0 rs in
@@ -75,8 +76,7 @@ opened-rules l g v eight five e f w a =
     let major : ℕ = l .version .major in
     let rules = rules-say l e in
     let q = and-both (leb (g .guarantee) (g .cap)) (leb (g .cap) 256) f in
-    let u = and-both (ltb k (length rs)) (leb (sharesIn rs + g .guarantee) 256) w in
-    let b : k < length rs = ltb-true k (length rs) (u .0) in
+    let b : k < length rs = admitted rs g w .0 in
     let old : rowFits major (l .owners) k (getD rs k noRow) ≡ true = row-fits-at major (l .owners) rs k (rules .rows) b in
     let facts : RowFacts major r = opened-facts major i (g .guarantee) (g .cap) v (g .hash) (leb-true (g .guarantee) (g .cap) (q .0)) (leb-true (g .cap) 256 (q .1)) a in
     let new : rowFits major (l .owners) k r ≡ true
@@ -86,6 +86,6 @@ opened-rules l g v eight five e f w a =
     say-rules (withRow l k r) (record {
       ids = distinct-set rs k r (λ _ j h _. index-missing (i .0) rs (lowest-of-eight rs eight .unused) j h) (rules .ids);
       rows = rows-set major (l .owners) (l .owners) rs k r b new (λ j h n t. t) (rules .rows);
-      shares = omega (arith, opened-held i (g .guarantee) (g .cap) v (g .hash), shares-set rs k r b, leb-true (sharesIn rs + g .guarantee) 256 (u .1));
+      shares = omega (arith, opened-held i (g .guarantee) (g .cap) v (g .hash), shares-set rs k r b, admitted rs g w .1);
       blocks = rules .blocks;
     })

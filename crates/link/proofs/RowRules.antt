@@ -2,10 +2,10 @@
 -- Two laws, of a message set and of all else remade, and one change after another.
 -- Assumes nothing.
 use mathlib.Core.Path.{_≡_, refl, sym, ap, subst, _∙_}
-use Prim.Native.Nat.{ℕ, zero, suc, _+_, _≤_, _<_, max, min}
+use Prim.Native.Nat.{ℕ, _+_, _≤_, _<_, max, min}
 use native.Mathlib.Omega.{arith}
 use mathlib.Core.Bool.{true, false, true≢false}
-use mathlib.Core.List.{List, [], _∷_}
+use mathlib.Core.List.{List}
 use lib.Dec.{eqb, leb}
 use lib.ListN.{length, getD, set, length-set}
 use lib.Seq.{getD-set-same, getD-set-other}
@@ -22,7 +22,7 @@ use Rattle.session.specs.Rows.{noReassembly, notRunning, withMessages, withMess
 use Rattle.session.specs.Rules.{versionFits, isRunning, serviceFits}
 use Rattle.session.specs.Decide.{placeOf, needOf, heldBy, heldIn, heldOf, shareOf, sized}
 use Rattle.link.specs.State.{versionAllowed, serviceAt}
-use Rattle.link.proofs.Each.{set-each}
+use Rattle.link.proofs.Each.{set-each, sum-set}
 use Rattle.link.proofs.RowFacts.{place-below, place-service, runsAt, Fits, fits-none, fits-announced, fits-shortened, RowFacts}
 
 -- ---- held blocks
@@ -30,9 +30,7 @@ use Rattle.link.proofs.RowFacts.{place-below, place-service, runsAt, Fi
 -- the sum over the messages after one of them was set
 held-set : (ms : List Reassembly) (k : ℕ) (m : Reassembly) → k < length ms → heldIn (set ms k m) + heldBy (getD ms k noReassembly) ≡ heldIn ms + heldBy m
 unfolding heldIn
-held-set [] k m h = absurd (omega arith)
-held-set (a ∷ ms) zero m h = omega arith
-held-set (a ∷ ms) (suc k) m h = omega (arith, held-set ms k m (omega arith))
+held-set ms k m h = sum-set heldIn heldBy (λ a l. refl) ms k m noReassembly h
 
 pub held-idle : (m : Reassembly) → m .live ≡ false → heldBy m ≡ 0
 unfolding heldBy

@@ -10,7 +10,7 @@ use lib.Dec.{eqb, ltb}
 use lib.ListN.{length, getD, set, length-set}
 use borrow.Author.Tests.{eqb-true, eqb-false, eq-eqb, ne-eqb, lt-ltb, le-ltb}
 use Rattle.numbers.specs.Bytes.{pick}
-use Rattle.numbers.proofs.Choices.{and-yes, and-both, same-or-not, onTest}
+use Rattle.numbers.proofs.Choices.{and-both, same-or-not, split}
 use Rattle.blocks.specs.Map.{Outside}
 use Rattle.session.specs.declared.Row.{Row}
 use Rattle.frame.specs.declared.SessionId.{SessionId}
@@ -19,7 +19,7 @@ use Rattle.session.specs.Decide.{heldBy, heldIn, heldOf, shareOf}
 use Rattle.link.specs.State.{indexOf, ownerOf, sharesIn, distinctIds, lowestFree}
 use Rattle.link.specs.Book.{Book, there, lowestIn}
 use Rattle.link.specs.Pages.{FiveEach}
-use Rattle.link.proofs.Each.{set-each}
+use Rattle.link.proofs.Each.{set-each, sum-set}
 
 -- ---- 1. where an id stands
 
@@ -94,11 +94,7 @@ distinct-tail r rs e = and-both (eqb (r .id .0) 0 || eqb (indexOf (r .id .0) rs)
 distinct-cons : (r : Row) (rs : List Row) → (r .id .0 ≢ 0 → indexOf (r .id .0) rs ≡ length rs) → distinctIds rs ≡ true → distinctIds (r ∷ rs) ≡ true
 unfolding distinctIds
 distinct-cons r rs f e =
-    and-yes (eqb (r .id .0) 0 || eqb (indexOf (r .id .0) rs) (length rs)) (distinctIds rs)
-    (onTest (λ (t : Bool). t || eqb (indexOf (r .id .0) rs) (length rs) ≡ true) (eqb (r .id .0) 0)
-    (λ q. refl)
-    (λ q. eq-eqb (indexOf (r .id .0) rs) (length rs) (f (eqb-false (r .id .0) 0 q))))
-    e
+    split (eqb (r .id .0) 0) (λ q. rw (q, e)) (λ q. rw (q, eq-eqb (indexOf (r .id .0) rs) (length rs) (f (eqb-false (r .id .0) 0 q)), e))
 
 -- where ids are distinct, only one row has an id other than 0
 pub distinct-one : (rs : List Row) (j k : ℕ) → distinctIds rs ≡ true → j < length rs → k < length rs → idAt rs j ≡ idAt rs k → idAt rs j ≢ 0 → j ≡ k
@@ -163,9 +159,7 @@ distinct-set (q ∷ rs) (suc k) r f g =
 -- a row's share goes out, another's comes in
 pub shares-set : (rs : List Row) (k : ℕ) (r : Row) → k < length rs → sharesIn (set rs k r) + shareOf (getD rs k noRow) ≡ sharesIn rs + shareOf r
 unfolding sharesIn
-shares-set [] k r h = absurd (omega arith)
-shares-set (q ∷ rs) zero r h = omega arith
-shares-set (q ∷ rs) (suc k) r h = omega (arith, shares-set rs k r (omega arith))
+shares-set rs k r h = sum-set sharesIn shareOf (λ a l. refl) rs k r noRow h
 
 -- each share is part of the sum
 pub share-below : (rs : List Row) (k : ℕ) → k < length rs → shareOf (getD rs k noRow) ≤ sharesIn rs

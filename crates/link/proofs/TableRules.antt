@@ -24,7 +24,7 @@ use Rattle.link.specs.Call.{After, applied}
 use Rattle.link.specs.Book.{Ask}
 use Rattle.link.specs.Claim.{State}
 use Rattle.link.specs.Pages.{FiveEach, Sane}
-use Rattle.link.proofs.Each.{each-make, set-each}
+use Rattle.link.proofs.Each.{each-make, set-each, sum-set}
 use Rattle.link.proofs.Shown.{Rules, rules-say, say-rules}
 use Rattle.link.proofs.Table.{distinct-one, distinct-set, shares-set, share-below, five-set, free-held, owner-some, owner-apart, owner-outside, owner-inside}
 use Rattle.link.proofs.Holdings.{five-at, row-fits-at, blocks-say, say-blocks, row-owned}
@@ -48,9 +48,7 @@ heldsIn (r ∷ rs) = heldOf r + heldsIn rs
 
 helds-set : (rs : List Row) (i : ℕ) (r : Row) → i < length rs → heldsIn (set rs i r) + heldOf (getD rs i noRow) ≡ heldsIn rs + heldOf r
 unfolding heldsIn
-helds-set [] i r h = absurd (omega arith)
-helds-set (a ∷ rs) zero r h = omega arith
-helds-set (a ∷ rs) (suc i) r h = omega (arith, helds-set rs i r (omega arith))
+helds-set rs i r h = sum-set heldsIn heldOf (λ a l. refl) rs i r noRow h
 
 -- no row holds more than its share
 helds-most : (rs : List Row) → heldsIn rs ≤ sharesIn rs
@@ -94,16 +92,13 @@ rows-owned major owners n (r ∷ rs) five e =
     let z : 5 * suc (length rs) ≡ 5 + 5 * length rs = omega arith in
     subst (λ (x : ℕ). heldByAll (ownerOf n 0) x owners ≡ heldOf r + heldsIn rs) (sym z) (owners-join (ownerOf n 0) 5 (5 * length rs) owners ∙ omega arith)
 
-first-owner : ownerOf 0 0 ≡ 1
-unfolding ownerOf
-first-owner = refl
-
 -- the forty owners have what the eight rows hold
 pub forty : (major : ℕ) (owners : List ℕ) (rs : List Row) → length rs ≡ 8 → FiveEach rs → allFrom 0 (rowFits major owners) rs ≡ true → heldByAll 1 40 owners ≡ heldsIn rs
+unfolding ownerOf
 forty major owners rs eight five e =
     let z : 5 * length rs ≡ 40 = omega arith in
     let o : heldByAll (ownerOf 0 0) (5 * length rs) owners ≡ heldsIn rs = rows-owned major owners 0 rs five e in
-    rw (first-owner, z) at o
+    rw z at o
 
 -- ---- a row put in another's place
 
