@@ -76,7 +76,7 @@ module _ (s : State) (k : Sane s) where
       (λ z. missing-closed t j (missing-set j (s .link .rows) m x (closed-index j e z) (λ u. z (d u)))) in
       closed-page t j shut ∙ sym (closed-page s j e)
 
-  -- the row after a decision has no other session's id
+  -- a decision leaves the other sessions' pages: those of open sessions, and no other one opens
   others-kept : (i n : ℕ) (q : Request) (h : Header) (consumed : ℕ) (payload : List ℕ) (act : Act) → getD (s .link .rows) n noRow .id .0 ≡ i → (j : ℕ) → (i ≡ j → ⊥)
       → pages (after (applied (s .link) n (s .pool) (q .out) h consumed payload (q .grant) act)) j ≡ pages s j
   others-kept i n q h consumed payload act mine j d =

@@ -73,10 +73,13 @@ module _ (l : Link) (p s o : List ℕ) (g : Grant) where
   -- what is seen, and what the call leaves
   pub data Called : Seen → After → Type 0 where
     short : {n : ℕ} → Called nothing (after (answer.Short n) l p o)
+    -- 1 to 6 and 10 to 12
     refused : {x : Seen} {n : ℕ} → n ≤ 23 → Called x (after (answer.Refused n) l p o)
+    -- openings
     nacked : {c n : ℕ} {out : List ℕ} → Called opening (after (answer.Nacked c n) l p out)
     acked : {c n v : ℕ} {out : List ℕ} → guardOf l (length p) g ≡ true → admits (l .rows) g ≡ true
         → (v ≡ oldVersion (l .version .major)) ⊎ ((v ≡ 5) × (l .version .major ≡ 5)) → Called opening (after (answer.Acked c n) (entered l g v) p out)
+    -- a frame of an open session: the decision on its row
     in-row : (h : Header) (e : Extent) → readOf s ≡ reading.Frame h e → guardOf l (length p) g ≡ true → 128 ≤ length o
         → not (eqb (h .session .0) 0) && ltb (index h) (length (l .rows)) ≡ true
         → Called (within (h .session .0) (askOf h (payload e))) (applied l (index h) p o h (e .consumed) (payload e) g (decisionOf l (index h) h (payload e) (length o)))

@@ -44,7 +44,7 @@ pub record Served (major mtu : ℕ) (r : Row) (h : Header) : Type 0 where
   pub service : serviceFits r h ≡ true
   pub command : commandFits r h ≡ true
 
-pub served : (major mtu : ℕ) (r : Row) (h : Header) → barredBy major mtu r h ≡ 0 → Served major mtu r h
+served : (major mtu : ℕ) (r : Row) (h : Header) → barredBy major mtu r h ≡ 0 → Served major mtu r h
 unfolding barredBy
 served major mtu r h e =
     let p₁ = passed (not (h .flag)) 13 _ (λ z. omega arith) e in
@@ -55,7 +55,7 @@ served major mtu r h e =
     record { flag = not-true (h .flag) (p₁ .0); version = p₂ .0; mtu-fits = p₃ .0; service = p₄ .0; command = p₅ .0 }
 
 -- they are below 24
-pub barred-most : (major mtu : ℕ) (r : Row) (h : Header) → barredBy major mtu r h ≤ 23
+barred-most : (major mtu : ℕ) (r : Row) (h : Header) → barredBy major mtu r h ≤ 23
 unfolding barredBy
 barred-most major mtu r h =
     let P : ℕ → Type 0 = λ c. c ≤ 23 in
@@ -67,11 +67,11 @@ barred-most major mtu r h =
 
 -- ---- services and places
 
-pub place-one : (service : ℕ) → eqb service 0x07 ≡ true → placeOf service ≡ 1
+place-one : (service : ℕ) → eqb service 0x07 ≡ true → placeOf service ≡ 1
 unfolding placeOf
 place-one service e = let z : service ≡ 0x07 = eqb-true service 0x07 e in rw z
 
-pub place-other : (service : ℕ) → eqb service 0x07 ≡ false → placeOf service ≡ 1 → ⊥
+place-other : (service : ℕ) → eqb service 0x07 ≡ false → placeOf service ≡ 1 → ⊥
 unfolding placeOf
 place-other service e =
     let P : ℕ → Type 0 = λ p. p ≡ 1 → ⊥ in
@@ -95,25 +95,29 @@ module _ (l : Link) (i : ℕ) (h : Header) (payload : List ℕ) where
   place = placeOf (h .service .0)
 
   abbrev m : Reassembly
-  m = messageAt (getD (l .rows) i noRow) (placeOf (h .service .0))
+  m = messageAt r place
 
   -- the frame passed 13 to 17
   abbrev In : Type 0
-  In = Served (l .version .major) (l .mtu) (getD (l .rows) i noRow) h
+  In = Served (l .version .major) (l .mtu) r h
 
   -- what is asked, and what is decided
   pub data Decided : Ask → Act → Type 0 where
+    -- 11 and 13 to 23
     refuses : {ask : Ask} {n : ℕ} → n ≤ 23 → Decided ask (Refuse n)
+    -- control frames
     accepts : Decided other Accept
     beats : Decided other Beat
     starts : Decided other Start
     starts-not : Decided other NoStart
-    stops : (placeOf (h .service .0) ≡ 1 → ⊥) → Decided (end (placeOf (h .service .0))) Stop
-    closes : placeOf (h .service .0) ≡ 1 → Decided (end (placeOf (h .service .0))) Close
-    ends-not : {named : Bool} → Decided (end (placeOf (h .service .0))) (NoEnd named)
+    stops : (place ≡ 1 → ⊥) → Decided (end place) Stop
+    closes : place ≡ 1 → Decided (end place) Close
+    ends-not : {named : Bool} → Decided (end place) (NoEnd named)
+    -- a Single Frame, a First Frame
     hands-over : In → Decided (single payload) Single
     claims : {total count : ℕ} → In → (h .kind ≡ 0 → ⊥) → totalsFit total count ≡ true → m .live ≡ false → heldOf r + needOf total ≤ r .cap
         → (sharesIn (l .rows) - shareOf r) + max (heldOf r + needOf total) (r .guarantee) ≤ 256 → Decided (first place (h .message .0) total count) (Claim total count)
+    -- a consecutive frame: 24 and 25, one that is not the last, the last
     drops : {n : ℕ} → (n ≡ 24) ⊎ (n ≡ 25) → Continues h m → Decided (next place (h .message .0) payload) (Drop n)
     appends : Continues h m → sized m (h .size) ≡ true → (m .frames ≡ 1 → ⊥) → Decided (next place (h .message .0) payload) Append
     delivers : Continues h m → sized m (h .size) ≡ true → m .frames ≡ 1 → Decided (next place (h .message .0) payload) Deliver

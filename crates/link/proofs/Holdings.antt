@@ -78,7 +78,7 @@ needs-held s i place [] = refl
 needs-held s i place (m ∷ ms) = rw (note-need s i place m, needs-held s i (suc place) ms)
 
 -- an open session's page is read off its row
-pub page-row : (s : State) (i : ℕ) (p : Page) → pages s i ≡ some p → (isOpen s i ≡ true) × (p ≡ pageOf s (indexOf i (s .link .rows)) (getD (s .link .rows) (indexOf i (s .link .rows)) noRow))
+page-row : (s : State) (i : ℕ) (p : Page) → pages s i ≡ some p → (isOpen s i ≡ true) × (p ≡ pageOf s (indexOf i (s .link .rows)) (getD (s .link .rows) (indexOf i (s .link .rows)) noRow))
 page-row s i p e = let o : isOpen s i ≡ true = shown s i ∙ ap there e in (o, cc (page-of s i o))
 
 -- an open session's row is in the table

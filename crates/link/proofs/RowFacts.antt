@@ -158,7 +158,7 @@ pub record RowFacts (major : ℕ) (r : Row) : Type 0 where
   pub five : length (r .messages) ≡ 5
 
 module _ (major i : ℕ) (owners : List ℕ) (r : Row) where
-  pub facts-of : length (r .messages) ≡ 5 → OpenRow major i owners r → RowFacts major r
+  facts-of : length (r .messages) ≡ 5 → OpenRow major i owners r → RowFacts major r
   unfolding roomFits unsettledFits
   facts-of l g =
       let p = and-both (leb (r .guarantee) (r .cap)) _ (g .room) in

@@ -62,8 +62,6 @@ runs-in r h n e = rw (ne-eqb (h .kind) 0 n) at e
 pub record RowKept (major others place : ℕ) (r after : Row) (freed claimed : ℕ) : Type 0 where
   pub facts : RowFacts major after
   pub same-id : after .id ≡ r .id
-  pub same-guarantee : after .guarantee ≡ r .guarantee
-  pub same-cap : after .cap ≡ r .cap
   pub held : heldOf after + freed ≡ heldOf r + claimed
   pub shares : others + shareOf r ≤ 256 → others + shareOf after ≤ 256
   pub elsewhere : (k : ℕ) → (k ≡ place → ⊥) → messageAt after k ≡ messageAt r k
@@ -101,8 +99,6 @@ module _ (major others p : ℕ) where
   kept-then f c u v x y = record {
     facts = y .facts;
     same-id = y .same-id ∙ x .same-id;
-    same-guarantee = y .same-guarantee ∙ x .same-guarantee;
-    same-cap = y .same-cap ∙ x .same-cap;
     held = omega (arith, x .held, y .held);
     shares = λ h. y .shares (x .shares h);
     elsewhere = λ k n. y .elsewhere k n ∙ x .elsewhere k n;
@@ -132,8 +128,6 @@ module _ (major others p : ℕ) where
       five = f .five;
     };
     same-id = refl;
-    same-guarantee = refl;
-    same-cap = refl;
     held = refl;
     shares = λ h. h;
     elsewhere = λ k n. refl;
@@ -193,8 +187,6 @@ module _ (major others p : ℕ) where
             five = omega (arith, f .five);
           };
           same-id = refl;
-          same-guarantee = refl;
-          same-cap = refl;
           held = h;
           shares = w (heldIn (set ms p m)) h;
           elsewhere = λ k n. getD-set-other ms p k m noReassembly n;

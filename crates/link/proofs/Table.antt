@@ -59,7 +59,7 @@ index-row i (r ∷ rs) h =
     (λ n. ap (λ (k : ℕ). idAt (r ∷ rs) k) (index-later i r rs n) ∙ index-row i rs (omega (arith, index-later i r rs n)))
 
 -- it is the first that has it
-pub index-first : (i : ℕ) (rs : List Row) (j : ℕ) → j < length rs → idAt rs j ≡ i → indexOf i rs ≤ j
+index-first : (i : ℕ) (rs : List Row) (j : ℕ) → j < length rs → idAt rs j ≡ i → indexOf i rs ≤ j
 index-first i [] j h e = absurd (omega arith)
 index-first i (r ∷ rs) zero h e = omega (arith, index-here i r rs e)
 index-first i (r ∷ rs) (suc j) h e =
@@ -174,17 +174,17 @@ shares-modest rs k held most h s p = omega (arith, share-below rs k h)
 -- ---- 4. the lowest free id
 
 -- the first one tried is free
-pub lowest-here : (n k : ℕ) (rs : List Row) → indexOf k rs ≡ length rs → lowestFree (suc n) k rs ≡ k
+lowest-here : (n k : ℕ) (rs : List Row) → indexOf k rs ≡ length rs → lowestFree (suc n) k rs ≡ k
 unfolding lowestFree
 lowest-here n k rs e = ap (λ (t : Bool). pick t k (lowestFree n (suc k) rs)) (eq-eqb (indexOf k rs) (length rs) e)
 
 -- the first one tried is in a row
-pub lowest-later : (n k : ℕ) (rs : List Row) → indexOf k rs ≢ length rs → lowestFree (suc n) k rs ≡ lowestFree n (suc k) rs
+lowest-later : (n k : ℕ) (rs : List Row) → indexOf k rs ≢ length rs → lowestFree (suc n) k rs ≡ lowestFree n (suc k) rs
 unfolding lowestFree
 lowest-later n k rs h = ap (λ (t : Bool). pick t k (lowestFree n (suc k) rs)) (ne-eqb (indexOf k rs) (length rs) h)
 
 -- none is left to try
-pub lowest-none : (k : ℕ) (rs : List Row) → lowestFree 0 k rs ≡ 0
+lowest-none : (k : ℕ) (rs : List Row) → lowestFree 0 k rs ≡ 0
 unfolding lowestFree
 lowest-none k rs = refl
 
@@ -219,7 +219,7 @@ none-free (suc n) k rs h e =
     (λ q. omega (arith, above-one k rs q, none-free n (suc k) rs (omega arith) (sym (lowest-later n k rs q) ∙ e)))
 
 -- with more ids than rows, one is found
-pub lowest-some : (n k : ℕ) (rs : List Row) → 0 < k → length rs < n → 0 < lowestFree n k rs
+lowest-some : (n k : ℕ) (rs : List Row) → 0 < k → length rs < n → 0 < lowestFree n k rs
 lowest-some n k rs h s =
     same-or-not (lowestFree n k rs) 0
     (λ e. absurd (omega (arith, none-free n k rs h e, above-most k rs)))
@@ -233,7 +233,7 @@ pub record Lowest (n k : ℕ) (rs : List Row) (i : ℕ) : Type 0 where
   pub used : (j : ℕ) → k ≤ j → j < i → indexOf j rs < length rs
 
 -- what is found is the lowest
-pub lowest-is : (n k : ℕ) (rs : List Row) → 0 < lowestFree n k rs → Lowest n k rs (lowestFree n k rs)
+lowest-is : (n k : ℕ) (rs : List Row) → 0 < lowestFree n k rs → Lowest n k rs (lowestFree n k rs)
 lowest-is zero k rs h = absurd (omega (arith, lowest-none k rs))
 lowest-is (suc n) k rs h =
     same-or-not (indexOf k rs) (length rs)

@@ -80,7 +80,7 @@ unfolding heldByAll
 none-owned first map = refl
 
 -- all rows' owners have what all rows hold
-pub rows-owned : (major : ℕ) (owners : List ℕ) (n : ℕ) (rs : List Row) → FiveEach rs → allFrom n (rowFits major owners) rs ≡ true
+rows-owned : (major : ℕ) (owners : List ℕ) (n : ℕ) (rs : List Row) → FiveEach rs → allFrom n (rowFits major owners) rs ≡ true
     → heldByAll (ownerOf n 0) (5 * length rs) owners ≡ heldsIn rs
 unfolding heldsIn rowFits
 rows-owned major owners n [] five e = none-owned (ownerOf n 0) owners
