@@ -8,6 +8,7 @@ use mathlib.Core.Bool.{Bool, true, false, _&&_, and-true, not}
 use mathlib.Core.List.{List}
 use native.Mathlib.Omega.{arith}
 use lib.Dec.{T, eqb, ltb, leb}
+use lib.Ieee.Bits.{is-true}
 use lib.ListN.{length, getD}
 use borrow.Author.Tests.{eqb-true, leb-true, ltb-true}
 use Rattle.numbers.specs.Bytes.{pick, unless, part}
@@ -20,7 +21,6 @@ use Rattle.frame.specs.Read.{frontOf, readOf}
 use Rattle.frame.proofs.Laws.{fault-most}
 use Rattle.frame.proofs.Answers.{is-refused, session-fourth}
 use Rattle.payload.specs.declared.version.Version.{Version}
-use Rattle.payload.specs.Walk.{payloadOf}
 use Rattle.session.specs.declared.Row.{Row}
 use Rattle.session.specs.declared.Act.{Act}
 use Rattle.session.specs.Rows.{openedRow}
@@ -29,7 +29,7 @@ use Rattle.link.specs.declared.Grant.{Grant}
 use Rattle.link.specs.declared.Answer.{Answer}
 use Rattle.link.specs.declared.Answer.the-variants as answer
 use Rattle.link.specs.State.{indexOf, sharesIn, grantFits, guardOf, withRow, lowestFree}
-use Rattle.link.specs.Call.{After, after, Wish, old, new, bad, wishOf, wishOfPayload, opens, admits, oldVersion, openingBy, decisionOf, applied, frameOf, readingOf, callOf}
+use Rattle.link.specs.Call.{After, after, Wish, old, new, bad, wishOf, opens, admits, oldVersion, openingBy, decisionOf, applied, frameOf, readingOf, callOf}
 use Rattle.link.specs.Book.{Request, call, Seen, opening, within, nothing, askOf, seenIn, seenOf, names}
 use Rattle.link.specs.Claim.{State, stepped, isOpen}
 use Rattle.link.specs.Pages.{Sane}
@@ -43,11 +43,8 @@ use Rattle.link.proofs.Decisions.{both-by}
 -- only a link of version 5 grants a new version
 new-five : (major : ℕ) (payload : List ℕ) (v : Version) → wishOf major payload ≡ new v → major ≡ 5
 unfolding wishOf
-new-five major payload v = by (eqb major 5) (eqb-true major 5)
-  where
-    by : (b : Bool) → (b ≡ true → major ≡ 5) → unless b old (wishOfPayload payload (payloadOf payload)) ≡ new v → major ≡ 5
-    by true f q = f refl
-    by false f q = let z : _≡_ {A = ℕ} 0 1 = cc in absurd (omega arith)
+new-five major payload v =
+    unless-elim (λ (w : Wish). w ≡ new v → major ≡ 5) (eqb major 5) old _ (λ _ e. let z : _≡_ {A = ℕ} 0 1 = cc in absurd (omega arith)) (λ t _. eqb-true major 5 t)
 
 -- the row of a new session, and the link with it
 abbrev pub newRow : Link → Grant → ℕ → Row
@@ -126,12 +123,7 @@ opens-zero h e =
 
 -- a frame names the session whose id is its fourth byte
 pub named : (q : Request) (i : ℕ) (h : Header) (e : Extent) → readOf (q .input) ≡ reading.Frame h e → T (names i (call q)) → i ≡ h .session .0
-named q i h e f t = sym (session-fourth (q .input) h e f ∙ eqb-true (getD (q .input) 3 0) i (second (ltb 3 (length (q .input))) (eqb (getD (q .input) 3 0) i) t))
-  where
-    second : (a b : Bool) → T (a && b) → b ≡ true
-    second true true u = refl
-    second true false u = absurd u
-    second false b u = absurd u
+named q i h e f t = sym (session-fourth (q .input) h e f ∙ eqb-true (getD (q .input) 3 0) i (and-both (ltb 3 (length (q .input))) _ (is-true _ t) .1))
 
 -- tests that two and three choices share
 two-unless : {A B : Type 0} (P : A → B → Type 0) (b : Bool) (x y : A) (u v : B) → (b ≡ false → P x u) → (b ≡ true → P y v) → P (unless b x y) (unless b u v)

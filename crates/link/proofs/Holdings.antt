@@ -2,7 +2,7 @@
 -- Assumes nothing.
 use Prim.Native.Nat.{ℕ, zero, suc, _≤_, _<_}
 use mathlib.Core.Path.{_≡_, refl, ap, _∙_, sym}
-use mathlib.Core.Bool.{Bool, true, false, true≢false, _&&_, not}
+use mathlib.Core.Bool.{Bool, true, true≢false, _&&_, not}
 use mathlib.Core.Option.{some}
 use mathlib.Core.List.{List, [], _∷_}
 use native.Mathlib.Omega.{arith}
@@ -10,14 +10,14 @@ use lib.Dec.{eqb, ltb, leb}
 use lib.ListN.{length, getD}
 use borrow.Author.Tests.{eqb-true, leb-true, ltb-true, eq-eqb, ne-eqb, not-true}
 use Rattle.numbers.specs.Bytes.{pick}
-use Rattle.numbers.proofs.Choices.{and-both}
+use Rattle.numbers.proofs.Choices.{and-both, split}
 use Rattle.blocks.specs.Map.{heldBy, heldByAll}
 use Rattle.session.specs.declared.Reassembly.{Reassembly}
 use Rattle.session.specs.declared.Row.{Row}
 use Rattle.session.specs.Rows.{noRow, noReassembly, messageAt}
 use Rattle.session.specs.Decide.{needOf, heldIn, heldOf, heldBy as heldFor}
 use Rattle.link.specs.State.{indexOf, ownerOf, allFrom, roomFits, versionAllowed, unsettledFits, messageFits, blocksFit, rowFits}
-use Rattle.link.specs.Book.{there, Note, Page, needsIn, needsOf}
+use Rattle.link.specs.Book.{there, Page, needsIn, needsOf}
 use Rattle.link.specs.Claim.{State, isOpen, blocksOf}
 use Rattle.link.specs.Pages.{noteOf, notesFrom, pageOf, pages, FiveEach, Sane}
 use Rattle.link.proofs.Shown.{rules-say, shown, page-of}
@@ -34,13 +34,9 @@ five-at (r ∷ rs) zero f h = f .0
 five-at (r ∷ rs) (suc k) f h = five-at rs k (f .1) (omega arith)
 
 -- a message's need in the book is what it holds
-pick-need : (b : Bool) (x y : Note) → pick b x y .need ≡ pick b (x .need) (y .need)
-pick-need true x y = refl
-pick-need false x y = refl
-
 note-need : (s : State) (i place : ℕ) (m : Reassembly) → noteOf s i place m .need ≡ pick (m .live) (needOf (m .total)) 0
 unfolding noteOf
-note-need s i place m = pick-need (m .live) _ _
+note-need s i place m = split (m .live) (λ e. rw e) (λ e. rw e)
 
 -- ---- blocks and messages
 
