@@ -15,14 +15,14 @@ use Rattle.numbers.specs.Numbers.{valueBe, bytesBe}
 use Rattle.frame.specs.declared.Header.{Header}
 use Rattle.frame.specs.declared.Reading.the-variants as reading
 use Rattle.frame.specs.Read.{extentOf, readOf}
-use Rattle.frame.specs.Message.{frameNumber, totalsFit}
+use Rattle.frame.specs.Message.{frameNumber}
 use Rattle.frame.proofs.Answers.{frame-sound}
 use Rattle.sender.specs.declared.Outgoing.{Outgoing}
 use Rattle.sender.specs.Sender.{countOf, chunkOf, Planned, plan, headerFor, frameAt, bytesOf}
 use Rattle.sender.specs.Arrival.{Arrival}
-use Rattle.sender.proofs.Counts.{chunk-range, totals-range, several-length, starts, ends, whole-chunk, some-chunk}
+use Rattle.sender.proofs.Counts.{chunk-range, several-length, starts, ends, whole-chunk, some-chunk}
 use Rattle.sender.proofs.Laws.{at-first, at-next, totals-length}
-use Rattle.sender.proofs.Arrival.{arrival, totals, last-several}
+use Rattle.sender.proofs.Arrival.{arrival, last-several}
 use Rattle.session.specs.declared.Reassembly.{Reassembly}
 use Rattle.session.specs.declared.Act.the-variants.{Append, Deliver}
 use Rattle.session.specs.Decide.{dueNumber, sized, nextFor}
@@ -47,12 +47,6 @@ module _ (o : Outgoing) (m : List ℕ) (cut : Cut o m) where
 
   pub some-bytes : 1 ≤ length m
   some-bytes = several-length o m (cut .several)
-
-  fit : totalsFit (length m) c ≡ true
-  fit = totals o m (cut .accepted) (cut .several)
-
-  pub some-frames : 1 ≤ c
-  some-frames = totals-range (length m) c fit .2
 
   arrives : Arrival o m
   arrives = arrival o m (cut .accepted) (cut .message) (cut .old-message)

@@ -71,26 +71,24 @@ service-sizes r s x =
     either P (eqb (s .0) 0x0A) _ _ (λ _. refl) λ _. either P (eqb (s .0) 0x0B) _ r (λ _. refl) (λ _. refl)
 
 -- the id after a decision: the same, or 0
-pub after-id : (r : Row) (h : Header) (hash : ℕ) (act : Act) → (rowAfter r h hash act .id .0 ≡ r .id .0) ⊎ (rowAfter r h hash act .id .0 ≡ 0)
-after-id r h hash act = by act
-  where
-    set-id : (m : Reassembly) → withMessageAt r (placeOf (h .service .0)) m .id .0 ≡ r .id .0
-    set-id m = ap (λ (x : Sizes). x .id) (set-sizes r (placeOf (h .service .0)) m (place-below (h .service .0)))
+module _ (r : Row) (h : Header) (hash : ℕ) where
+  set-id : (m : Reassembly) → withMessageAt r (placeOf (h .service .0)) m .id .0 ≡ r .id .0
+  set-id m = ap (λ (x : Sizes). x .id) (set-sizes r (placeOf (h .service .0)) m (place-below (h .service .0)))
 
-    by : (act : Act) → (rowAfter r h hash act .id .0 ≡ r .id .0) ⊎ (rowAfter r h hash act .id .0 ≡ 0)
-    by (Refuse n) = inl refl
-    by (Drop n) = inl (set-id _)
-    by Accept = inl refl
-    by Beat = inl refl
-    by Start = inl (ap (λ (x : Sizes). x .id) (service-sizes r (h .service) _))
-    by NoStart = inl refl
-    by Stop = inl (ap (λ (x : Sizes). x .id) (service-sizes _ (h .service) _) ∙ set-id _)
-    by Close = inr refl
-    by (NoEnd named) = inl refl
-    by (Claim total count) = inl (ap (λ (x : Sizes). x .id) (settled-sizes _ (h .version)) ∙ set-id _)
-    by Append = inl (set-id _)
-    by Deliver = inl (set-id _)
-    by Single = inl (ap (λ (x : Sizes). x .id) (settled-sizes r (h .version)))
+  pub after-id : (act : Act) → (rowAfter r h hash act .id .0 ≡ r .id .0) ⊎ (rowAfter r h hash act .id .0 ≡ 0)
+  after-id (Refuse n) = inl refl
+  after-id (Drop n) = inl (set-id _)
+  after-id Accept = inl refl
+  after-id Beat = inl refl
+  after-id Start = inl (ap (λ (x : Sizes). x .id) (service-sizes r (h .service) _))
+  after-id NoStart = inl refl
+  after-id Stop = inl (ap (λ (x : Sizes). x .id) (service-sizes _ (h .service) _) ∙ set-id _)
+  after-id Close = inr refl
+  after-id (NoEnd named) = inl refl
+  after-id (Claim total count) = inl (ap (λ (x : Sizes). x .id) (settled-sizes _ (h .version)) ∙ set-id _)
+  after-id Append = inl (set-id _)
+  after-id Deliver = inl (set-id _)
+  after-id Single = inl (ap (λ (x : Sizes). x .id) (settled-sizes r (h .version)))
 
 -- ---- what a decision moves
 
