@@ -2,7 +2,7 @@
 -- other one because nothing of it is touched.
 -- Assumes nothing.
 use Prim.Native.Nat.{ℕ, _-_, _≤_}
-use mathlib.Core.Path.{_≡_, refl, ap, _∙_, sym, subst, fun-ext}
+use mathlib.Core.Path.{_≡_, refl, ap, _∙_, sym, fun-ext}
 use mathlib.Core.Logic.{_⊎_, ⊎-elim}
 use mathlib.Core.Bool.{Bool, true, false}
 use mathlib.Core.Option.{Option, none, some}
@@ -62,18 +62,13 @@ module _ (s : State) (k : Sane s) where
       let f : ltb (indexOf j (s .link .rows)) (length (s .link .rows)) ≡ false = rw (ne-eqb j 0 z) at e in
       omega (arith, ltb-false (indexOf j (s .link .rows)) (length (s .link .rows)) f, index-below j (s .link .rows))
 
-  closed-zero : (t : State) → isOpen t 0 ≡ false
-  unfolding isOpen
-  closed-zero t = refl
-
   -- a row stored under another id opens no session
   stays-closed : (j m : ℕ) (x : Row) (owners pool : List ℕ) → isOpen s j ≡ false → (x .id .0 ≡ j → j ≡ 0)
       → pages (record { link = withOwners (withRow (s .link) m x) owners; pool = pool }) j ≡ pages s j
+  unfolding isOpen
   stays-closed j m x owners pool e d =
       let t : State = record { link = withOwners (withRow (s .link) m x) owners; pool = pool } in
-      let shut : isOpen t j ≡ false
-      = same-or-not j 0 (λ z. subst (λ (y : ℕ). isOpen t y ≡ false) (sym z) (closed-zero t))
-      (λ z. missing-closed t j (missing-set j (s .link .rows) m x (closed-index j e z) (λ u. z (d u)))) in
+      let shut : isOpen t j ≡ false = same-or-not j 0 (λ z. rw z) (λ z. missing-closed t j (missing-set j (s .link .rows) m x (closed-index j e z) (λ u. z (d u)))) in
       closed-page t j shut ∙ sym (closed-page s j e)
 
   -- a decision leaves the other sessions' pages: those of open sessions, and no other one opens
