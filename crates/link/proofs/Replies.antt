@@ -93,58 +93,34 @@ rpc-listed = refl
 
 -- the opening's ACK below version 5: "the hash as 4 raw bytes, most significant first"
 pub old-ack-back : (major session hash : ℕ) (least : 1 ≤ major) → (h : Header) × (Back (oldAck major session hash) h (bytesBe 4 hash) × (h .version ≡ min major 4) × (h .session .0 ≡ session))
-old-ack-back major session hash least = (
-  _,
-  (
-    reply-back (min major 4) rpc startAck session (bytesBe 4 hash) (omega arith) (omega arith) rpc-listed (reply-infos .0) (omega (arith, length-be 4 hash)) 1 (omega arith),
-    refl,
-    refl,
-  ),
-)
+old-ack-back major session hash least =
+    let back = reply-back (min major 4) rpc startAck session (bytesBe 4 hash) (omega arith) (omega arith) rpc-listed (reply-infos .0) (omega (arith, length-be 4 hash)) 1 (omega arith) in
+    (_, (back, refl, refl))
 
 -- and in version 5, with its tags
 pub new-ack-back : (session hash mtu : ℕ) (v : Version) → hash < 2 ^ 32 → mtu < 2 ^ 64 → v .major < 256 → v .minor < 256 → v .patch < 256
     → (h : Header) × (Back (newAck session hash mtu v) h (ackPayload hash mtu v) × (h .version ≡ 5) × (h .session .0 ≡ session) × (payloadOf (ackPayload hash mtu v) ≡ Accepted (ackTags hash mtu v)))
-new-ack-back session hash mtu v a b c d e = (
-  _,
-  (
-    reply-back 5 rpc startAck session (ackPayload hash mtu v) (omega arith) (omega arith) rpc-listed (reply-infos .0) (omega (arith, ack-most hash mtu v c d e)) 1 (omega arith),
-    refl,
-    refl,
-    ack-read hash mtu v a b c d e,
-  ),
-)
+new-ack-back session hash mtu v a b c d e =
+    let back = reply-back 5 rpc startAck session (ackPayload hash mtu v) (omega arith) (omega arith) rpc-listed (reply-infos .0) (omega (arith, ack-most hash mtu v c d e)) 1 (omega arith) in
+    (_, (back, refl, refl, ack-read hash mtu v a b c d e))
 
 -- a service's ACK in version 5, with its tags
 pub service-ack-back : (service : ServiceType) (session hash mtu message : ℕ) → listedService service ≡ true → hash < 2 ^ 32 → mtu < 2 ^ 64 → message < 2 ^ 32
     → (h : Header) × (Back (replyBytes 5 service startAck session message (serviceAckPayload hash mtu)) h (serviceAckPayload hash mtu)
     × (payloadOf (serviceAckPayload hash mtu) ≡ Accepted (grantTags hash mtu)))
-service-ack-back service session hash mtu message l a b small = (
-  _,
-  (
-    reply-back 5 service startAck session (serviceAckPayload hash mtu) (omega arith) (omega arith) l (reply-infos .0) (omega (arith, length-service-ack hash mtu)) message small,
-    service-ack-read hash mtu a b,
-  ),
-)
+service-ack-back service session hash mtu message l a b small =
+    let back = reply-back 5 service startAck session (serviceAckPayload hash mtu) (omega arith) (omega arith) l (reply-infos .0) (omega (arith, length-service-ack hash mtu)) message small in
+    (_, (back, service-ack-read hash mtu a b))
 
 -- NAKs that name a parameter: of an opening, and of an End in version 5
 pub opening-nak-back : (major : ℕ) → 1 ≤ major
     → (h : Header) × (Back (openingNak major (nakPayload protocolVersion)) h (nakPayload protocolVersion) × (h .session .0 ≡ 0) × (payloadOf (nakPayload protocolVersion) ≡ Accepted nakTags))
-opening-nak-back major least = (
-  _,
-  (
-    reply-back (min major 4) rpc startNak 0 (nakPayload protocolVersion) (omega arith) (omega arith) rpc-listed (reply-infos .1) (omega (arith, length-nak protocolVersion)) 0 (omega arith),
-    refl,
-    nak-read parameter.ProtocolVersion,
-  ),
-)
+opening-nak-back major least =
+    let back = reply-back (min major 4) rpc startNak 0 (nakPayload protocolVersion) (omega arith) (omega arith) rpc-listed (reply-infos .1) (omega (arith, length-nak protocolVersion)) 0 (omega arith) in
+    (_, (back, refl, nak-read parameter.ProtocolVersion))
 
 pub end-nak-back : (service : ServiceType) (session : ℕ) → listedService service ≡ true
     → (h : Header) × (Back (replyBytes 5 service endNak session 0 (nakPayload hashId)) h (nakPayload hashId) × (payloadOf (nakPayload hashId) ≡ Accepted nakTags))
-end-nak-back service session l = (
-  _,
-  (
-    reply-back 5 service endNak session (nakPayload hashId) (omega arith) (omega arith) l (reply-infos .3) (omega (arith, length-nak hashId)) 0 (omega arith),
-    nak-read parameter.HashId,
-  ),
-)
+end-nak-back service session l =
+    let back = reply-back 5 service endNak session (nakPayload hashId) (omega arith) (omega arith) l (reply-infos .3) (omega (arith, length-nak hashId)) 0 (omega arith) in
+    (_, (back, nak-read parameter.HashId))
