@@ -15,7 +15,6 @@ use Rattle.numbers.specs.Numbers.{valueBe}
 use Rattle.numbers.proofs.Choices.{either, unless-elim}
 use Rattle.frame.specs.declared.Header.{Header}
 use Rattle.frame.specs.Message.{totalsFit}
-use Rattle.frame.proofs.Laws.{passed}
 use Rattle.session.specs.declared.Reassembly.{Reassembly}
 use Rattle.session.specs.declared.Row.{Row}
 use Rattle.session.specs.declared.Said.{Said}
@@ -44,26 +43,18 @@ pub record Served (major mtu : ℕ) (r : Row) (h : Header) : Type 0 where
   pub service : serviceFits r h ≡ true
   pub command : commandFits r h ≡ true
 
-served : (major mtu : ℕ) (r : Row) (h : Header) → barredBy major mtu r h ≡ 0 → Served major mtu r h
+-- their numbers are below 24; where none is given, all of it holds
+barred : (major mtu : ℕ) (r : Row) (h : Header) → (barredBy major mtu r h ≤ 23) × (barredBy major mtu r h ≡ 0 → Served major mtu r h)
 unfolding barredBy
-served major mtu r h e =
-    let p₁ = passed (not (h .flag)) 13 _ (λ z. omega arith) e in
-    let p₂ = passed (versionFits major r (h .version)) 14 _ (λ z. omega arith) (p₁ .1) in
-    let p₃ = passed (mtuFits mtu r (h .size)) 15 _ (λ z. omega arith) (p₂ .1) in
-    let p₄ = passed (serviceFits r h) 16 _ (λ z. omega arith) (p₃ .1) in
-    let p₅ = passed (commandFits r h) 17 0 (λ z. omega arith) (p₄ .1) in
-    record { flag = not-true (h .flag) (p₁ .0); version = p₂ .0; mtu-fits = p₃ .0; service = p₄ .0; command = p₅ .0 }
-
--- they are below 24
-barred-most : (major mtu : ℕ) (r : Row) (h : Header) → barredBy major mtu r h ≤ 23
-unfolding barredBy
-barred-most major mtu r h =
-    let P : ℕ → Type 0 = λ c. c ≤ 23 in
-    unless-elim P (not (h .flag)) 13 _ (λ _. omega arith) λ _.
-    unless-elim P (versionFits major r (h .version)) 14 _ (λ _. omega arith) λ _.
-    unless-elim P (mtuFits mtu r (h .size)) 15 _ (λ _. omega arith) λ _.
-    unless-elim P (serviceFits r h) 16 _ (λ _. omega arith) λ _.
-    unless-elim P (commandFits r h) 17 0 (λ _. omega arith) (λ _. omega arith)
+barred major mtu r h =
+    let P : ℕ → Type 0 = λ c. (c ≤ 23) × (c ≡ 0 → Served major mtu r h) in
+    let bars : (c : ℕ) → 1 ≤ c → c ≤ 23 → P c = λ c a b. (b, (λ z. absurd (omega arith))) in
+    unless-elim P (not (h .flag)) 13 _ (λ _. bars 13 (omega arith) (omega arith)) λ t₁.
+    unless-elim P (versionFits major r (h .version)) 14 _ (λ _. bars 14 (omega arith) (omega arith)) λ t₂.
+    unless-elim P (mtuFits mtu r (h .size)) 15 _ (λ _. bars 15 (omega arith) (omega arith)) λ t₃.
+    unless-elim P (serviceFits r h) 16 _ (λ _. bars 16 (omega arith) (omega arith)) λ t₄.
+    unless-elim P (commandFits r h) 17 0 (λ _. bars 17 (omega arith) (omega arith)) λ t₅.
+    (omega arith, (λ _. record { flag = not-true (h .flag) t₁; version = t₂; mtu-fits = t₃; service = t₄; command = t₅ }))
 
 -- ---- services and places
 
@@ -173,8 +164,9 @@ module _ (l : Link) (i : ℕ) (h : Header) (payload : List ℕ) where
   unfolding decisionOf askOf contentOf
   decided room =
       let b : ℕ = barredBy (l .version .major) (l .mtu) r h in
-      unless-elim (Decided (askOf h payload)) (eqb b 0) (Refuse b) _ (λ _. refuses (barred-most (l .version .major) (l .mtu) r h)) λ t.
-      let q : In = served (l .version .major) (l .mtu) r h (eqb-true b 0 t) in
+      let by = barred (l .version .major) (l .mtu) r h in
+      unless-elim (Decided (askOf h payload)) (eqb b 0) (Refuse b) _ (λ _. refuses (by .0)) λ t.
+      let q : In = by .1 (eqb-true b 0 t) in
       both-by Decided (eqb (h .kind) 0) _ _ _ _ (λ _. control-decided (saidOf r payload)) λ n.
       both-by Decided (eqb (h .kind) 1) _ _ _ _ (λ _. single-decided room q) λ _.
       both-by Decided (eqb (h .kind) 2) _ _ _ _ (λ _. first-decided (valueBe (part payload 0 4)) (valueBe (part payload 4 4)) q (eqb-false (h .kind) 0 n)) (λ _. next-decided room)
