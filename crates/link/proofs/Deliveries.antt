@@ -1,21 +1,20 @@
 -- What is due is delivered: by the frame's kind, the decision on it and what the book has of its message.
 -- Assumes nothing.
-use Prim.Native.Nat.{ℕ, zero, suc, _+_, _-_, _*_, _≤_, _<_, max}
-use mathlib.Core.Path.{_≡_, refl, ap, _∙_, sym, subst}
-use mathlib.Core.Bool.{Bool, true, false, _&&_, _||_, not}
+use Prim.Native.Nat.{ℕ, zero, suc, _+_, _-_, _*_, _/_, _≤_, _<_}
+use mathlib.Core.Path.{_≡_, refl, ap, _∙_, sym}
+use mathlib.Core.Bool.{true}
 use mathlib.Core.Option.{Option, none, some}
 use mathlib.Core.List.{List, [], _∷_, _++_}
 use native.Mathlib.Omega.{arith}
-use lib.Dec.{T, eqb, ltb, leb}
+use lib.Dec.{T, eqb, leb}
 use lib.ListN.{length, getD, take, length-append}
 use lib.Seq.{length-take-le}
-use borrow.Author.Tests.{eqb-true, eqb-false, eq-eqb, ne-eqb}
-use Rattle.numbers.specs.Bytes.{pick, part, laid}
-use Rattle.numbers.proofs.Choices.{and-both, either, unless-elim}
+use borrow.Author.Tests.{eqb-true, eq-eqb, ne-eqb}
+use Rattle.numbers.specs.Bytes.{laid}
+use Rattle.numbers.proofs.Choices.{and-both}
 use Rattle.blocks.specs.Map.{heldBy as blocksOf}
 use Rattle.frame.specs.declared.Header.{Header}
 use Rattle.frame.specs.declared.Extent.{Extent}
-use Rattle.frame.specs.declared.Reading.{Reading}
 use Rattle.frame.specs.declared.Reading.the-variants as reading
 use Rattle.frame.specs.Read.{readOf}
 use Rattle.frame.proofs.ThereAndBack.{payload-length}
@@ -23,52 +22,33 @@ use Rattle.blocks.specs.Pool.{blockBytes, appended}
 use Rattle.blocks.proofs.Contents.{append-fits, bytes-length}
 use Rattle.session.specs.declared.Reassembly.{Reassembly}
 use Rattle.session.specs.declared.Row.{Row}
-use Rattle.session.specs.declared.Said.{Said}
 use Rattle.session.specs.declared.Act.{Act}
-use Rattle.session.specs.declared.Act.the-variants.{Refuse, Drop, Accept, Beat, Start, NoStart, Stop, Close, NoEnd, Claim, Append, Deliver}
 use Rattle.session.specs.Rows.{noRow, noReassembly, messageAt}
-use Rattle.session.specs.Rules.{barredBy}
-use Rattle.session.specs.Decide.{placeOf, needOf, heldBy, heldOf, firstOf, dueNumber, sized, nextFor, singleOf, startable, startOf, endable, hashOf, endOf, controlOf, contentOf}
-use Rattle.frame.specs.Message.{totalsFit}
-use Rattle.link.specs.declared.Link.{Link}
-use Rattle.link.specs.declared.Grant.{Grant}
-use Rattle.link.specs.State.{indexOf, ownerOf, guardOf}
-use Rattle.link.specs.Call.{After, Wish, old, new, bad, wishOf, opens, admits, openingBy, saidOf, decisionOf, applied, frameOf, readingOf, callOf}
-use Rattle.link.specs.Book.{Request, Command, call, Ask, single, next, end, other, Seen, opening, within, askOf, seenIn, seenOf, isAccepted, Note, noNote, Page, dueFor, dueOn, dueIn, dueOf}
-use Rattle.link.specs.Claim.{State, eventOf, isOpen, isDelivery, DeliversDue}
-use Rattle.link.specs.Pages.{rowOf, noteOf, notesFrom, pageOf, pages, Sane}
-use Rattle.link.proofs.OpenRows.{open-facts}
-use Rattle.link.proofs.RowRules.{Fits, place-below, or-then}
+use Rattle.session.specs.Decide.{placeOf, needOf, heldBy, sized}
+use Rattle.link.specs.State.{indexOf, ownerOf}
+use Rattle.link.specs.Call.{After, applied}
+use Rattle.link.specs.Book.{Request, Command, call, Ask, Seen, askOf, isAccepted, noNote, dueFor, dueOn, dueIn, dueOf}
+use Rattle.link.specs.Claim.{State, eventOf, isOpen, DeliversDue}
+use Rattle.link.specs.Pages.{noteOf, notesFrom, pageOf, pages, Sane}
+use Rattle.link.proofs.Calls.{payloadIn, rowCall, Called, short, refused, nacked, acked, in-row, called}
+use Rattle.link.proofs.Decisions.{Decided, refuses, accepts, beats, starts, starts-not, stops, closes, ends-not, hands-over, claims, drops, appends, delivers, decided}
+use Rattle.link.proofs.Shown.{is-open, page-of}
+use Rattle.link.proofs.RowFacts.{place-below, OpenFacts, open-facts}
+use Rattle.link.proofs.Each.{or-then}
 
 -- the note at a place is read off the message there
-pub notes-at : (s : State) (n from : ℕ) (ms : List Reassembly) (k : ℕ) → k < length ms → getD (notesFrom s n from ms) k noNote ≡ noteOf s n (from + k) (getD ms k noReassembly)
+notes-at : (s : State) (n from : ℕ) (ms : List Reassembly) (k : ℕ) → k < length ms → getD (notesFrom s n from ms) k noNote ≡ noteOf s n (from + k) (getD ms k noReassembly)
 unfolding notesFrom
 notes-at s n from [] k h = absurd (omega arith)
 notes-at s n from (m ∷ ms) zero h = let z : from + 0 ≡ from = omega arith in rw z
 notes-at s n from (m ∷ ms) (suc k) h = let z : from + suc k ≡ suc from + k = omega arith in rw z (notes-at s n (suc from) ms k (omega arith))
 
--- a test that two choices share
-pub both-by : {A B : Type 0} (P : A → B → Type 0) (b : Bool) (x y : A) (u v : B) → (b ≡ true → P x u) → (b ≡ false → P y v) → P (pick b x y) (pick b u v)
-both-by P true x y u v f g = f refl
-both-by P false x y u v f g = g refl
+pub note-at : (s : State) (n : ℕ) (r : Row) (place : ℕ) → place < length (r .messages) → getD (notesFrom s n 0 (r .messages)) place noNote ≡ noteOf s n place (messageAt r place)
+note-at s n r place h = let z : 0 + place ≡ place = omega arith in rw z at (notes-at s n 0 (r .messages) place h)
 
 -- what a call owes for what is due
 abbrev pub Gives : Request → Option (List ℕ) → After → Type 0
 Gives q due w = T (isAccepted (w .answer)) → DeliversDue due (record { command = call q; answer = w .answer; out = w .out })
-
--- no reply and no refusal is a delivery
-abbrev Quiet : After → Type 0
-Quiet w = isDelivery (w .answer) ≡ false
-
-opening-quiet : (l : Link) (p o : List ℕ) (consumed : ℕ) (g : Grant) (w : Wish) → Quiet (openingBy l p o consumed g w)
-opening-quiet l p o consumed g bad = refl
-opening-quiet l p o consumed g old = unless-elim Quiet (admits (l .rows) g) _ _ (λ e. refl) (λ e. refl)
-opening-quiet l p o consumed g (new v) = unless-elim Quiet (admits (l .rows) g) _ _ (λ e. refl) (λ e. refl)
-
--- a message's blocks have room for all of it
-pub need-holds : (total : ℕ) → total ≤ 256 * needOf total
-unfolding needOf
-need-holds total = omega arith
 
 last-size : (m : Reassembly) (size : ℕ) → sized m size ≡ true → m .frames ≡ 1 → m .missing ≡ size
 unfolding sized
@@ -88,164 +68,88 @@ module _ (s : State) (n place : ℕ) (m : Reassembly) (id : ℕ) (payload : List
   unfolding dueFor noteOf
   due-whole f b = rw (live, eq-eqb (m .id .0) id (sym mine), eq-eqb (suc (m .count - m .frames)) (m .count) (omega arith))
 
--- a frame of an open session: n its row's place, r the row
-module _ (s : State) (q : Request) (n : ℕ) (h : Header) (consumed : ℕ) (payload : List ℕ) (k : Sane s)
-    (size : length payload ≡ h .size) (five : length (getD (s .link .rows) n noRow .messages) ≡ 5)
-    (fits : (place : ℕ) → place < 5 → (b : Bool) × Fits b (messageAt (getD (s .link .rows) n noRow) place))
-    (room : (place : ℕ) → place < 5 → blocksOf (ownerOf n place) (s .link .owners) ≡ heldBy (messageAt (getD (s .link .rows) n noRow) place)) where
-  abbrev done : Act → After
-  done act = applied (s .link) n (s .pool) (q .out) h consumed payload (q .grant) act
+-- a frame of an open message: the bytes that were there and the payload are the first of its blocks
+module _ (s : State) (k : Sane s) (n place : ℕ) (m : Reassembly) (payload : List ℕ) (live : m .live ≡ true) (most : m .missing ≤ m .total) (fit : length payload ≤ m .missing)
+    (held : blocksOf (ownerOf n place) (s .link .owners) ≡ heldBy m) where
+  abbrev came : List ℕ
+  came = take (m .total - m .missing) (blockBytes (ownerOf n place) (s .link .owners) (s .pool))
+
+  has-room : m .total ≤ 256 * blocksOf (ownerOf n place) (s .link .owners)
+  unfolding heldBy needOf
+  has-room = let z : blocksOf (ownerOf n place) (s .link .owners) ≡ (m .total + 255) / 256 = held ∙ rw live in omega arith
+
+  pub joined : take (m .total - (m .missing - length payload)) (blockBytes (ownerOf n place) (s .link .owners) (appended (ownerOf n place) (m .total - m .missing) payload (s .link .owners) (s .pool)))
+      ≡ came ++ payload
+  joined =
+      let z : m .total - m .missing + length payload ≡ m .total - (m .missing - length payload) = omega arith in
+      rw z at (append-fits (ownerOf n place) (m .total - m .missing) payload (s .link .owners) (s .pool) (omega (arith, k .owners, k .pool)) (omega (arith, has-room)))
+
+  -- with the last one they are all
+  whole : m .missing ≡ length payload → length (came ++ payload) ≡ m .total
+  whole last =
+      let b = bytes-length (ownerOf n place) (s .link .owners) (s .pool) (omega (arith, k .owners, k .pool)) in
+      let t : length came ≡ m .total - m .missing = length-take-le (m .total - m .missing) (blockBytes (ownerOf n place) (s .link .owners) (s .pool)) (omega (arith, has-room)) in
+      length-append came payload ∙ omega arith
+
+-- a frame of an open session
+module _ (s : State) (q : Request) (k : Sane s) (h : Header) (e : Extent) (f : readOf (q .input) ≡ reading.Frame h e) (opened : isOpen s (h .session .0) ≡ true) where
+  abbrev n : ℕ
+  n = indexOf (h .session .0) (s .link .rows)
+
+  abbrev place : ℕ
+  place = placeOf (h .service .0)
+
+  abbrev m : Reassembly
+  m = messageAt (getD (s .link .rows) n noRow) place
+
+  facts : OpenFacts s (h .session .0) n
+  facts = open-facts s (h .session .0) k opened
 
   abbrev Owes : Ask → Act → Type 0
-  Owes ask act = Gives q (dueOn (some (pageOf s n (getD (s .link .rows) n noRow))) ask) (done act)
+  Owes ask act =
+      Gives q (dueOn (some (pageOf s n (getD (s .link .rows) n noRow))) ask) (applied (s .link) n (s .pool) (q .out) h (e .consumed) (payloadIn q e) (q .grant) act)
 
-  control-quiet : (r : Row) (said : Said) → Quiet (done (controlOf r h said))
-  unfolding controlOf startOf endOf
-  control-quiet r said =
-      let P : Act → Type 0 = λ act. Quiet (done act) in
-      either P (eqb (h .info) 0x01) _ _ (λ _. unless-elim P (startable r (h .service .0) && (not (eqb (r .version) 5) || said .readable)) NoStart Start (λ _. refl) (λ _. refl)) λ _.
-      either P (eqb (h .info) 0x04) _ _
-      (λ _.
-      unless-elim P (endable r (h .service .0)) (NoEnd false) _ (λ _. refl) λ _.
-      unless-elim P (said .found && eqb (said .hash) (hashOf r (h .service .0))) (NoEnd (eqb (r .version) 5)) _ (λ _. refl) λ _.
-      either P (eqb (h .service .0) 0x07) Close Stop (λ _. refl) (λ _. refl)) λ _.
-      either P (eqb (h .info) 0x00) Beat Accept (λ _. refl) (λ _. refl)
-
-  first-quiet : (r : Row) (others total count : ℕ) → Quiet (done (firstOf r others h total count))
-  unfolding firstOf
-  first-quiet r others total count =
-      let P : Act → Type 0 = λ act. Quiet (done act) in
-      unless-elim P (totalsFit total count) (Refuse 18) _ (λ _. refl) λ _.
-      unless-elim P (not (messageAt r (placeOf (h .service .0)) .live)) (Refuse 19) _ (λ _. refl) λ _.
-      unless-elim P (leb (heldOf r + needOf total) (r .cap)) (Refuse 20) _ (λ _. refl) λ _.
-      unless-elim P (leb (others + max (heldOf r + needOf total) (r .guarantee)) 256) (Refuse 21) (Claim total count) (λ _. refl) (λ _. refl)
-
-  single-gives : (space : ℕ) → Owes (single payload) (singleOf space h)
-  unfolding singleOf
-  single-gives space = unless-elim (Owes (single payload)) (leb (h .size) space) _ _ (λ _ z. absurd z) (λ _ _. (refl, refl))
-
-  -- a message's last frame: the bytes that were there and the payload are the whole message
-  module _ (place : ℕ) (below : place < 5) (m : Reassembly) (is : messageAt (getD (s .link .rows) n noRow) place ≡ m) (live : m .live ≡ true) (last : m .missing ≡ h .size)
-      (most : m .missing ≤ m .total) where
-    abbrev mine : ℕ
-    mine = ownerOf n place
-
-    abbrev before : List ℕ
-    before = blockBytes (ownerOf n place) (s .link .owners) (s .pool)
-
-    has-room : m .total ≤ 256 * blocksOf (ownerOf n place) (s .link .owners)
-    unfolding heldBy
-    has-room =
-        let z : blocksOf (ownerOf n place) (s .link .owners) ≡ needOf (m .total) = room place below ∙ rw (is, live) in
-        omega (arith, need-holds (m .total))
-
-    joined : take (m .total) (blockBytes (ownerOf n place) (s .link .owners) (appended (ownerOf n place) (m .total - m .missing) payload (s .link .owners) (s .pool)))
-        ≡ take (m .total - m .missing) (blockBytes (ownerOf n place) (s .link .owners) (s .pool)) ++ payload
-    joined =
-        let z : m .total - m .missing + length payload ≡ m .total = omega arith in
-        rw z at (append-fits (ownerOf n place) (m .total - m .missing) payload (s .link .owners) (s .pool) (omega (arith, k .owners, k .pool)) (omega (arith, has-room)))
-
-    whole : length (take (m .total - m .missing) (blockBytes (ownerOf n place) (s .link .owners) (s .pool)) ++ payload) ≡ m .total
-    whole =
-        let b : length (blockBytes (ownerOf n place) (s .link .owners) (s .pool)) ≡ 256 * blocksOf (ownerOf n place) (s .link .owners)
-        = bytes-length (ownerOf n place) (s .link .owners) (s .pool) (omega (arith, k .owners, k .pool)) in
-        let t : length (take (m .total - m .missing) (blockBytes (ownerOf n place) (s .link .owners) (s .pool))) ≡ m .total - m .missing
-        = length-take-le (m .total - m .missing) (blockBytes (ownerOf n place) (s .link .owners) (s .pool)) (omega (arith, has-room)) in
-        length-append (take (m .total - m .missing) (blockBytes (ownerOf n place) (s .link .owners) (s .pool))) payload ∙ omega arith
-
-  -- a consecutive frame delivers where it is its message's last
-  next-gives : (space : ℕ) → Owes (next (placeOf (h .service .0)) (h .message .0) payload) (nextFor (messageAt (getD (s .link .rows) n noRow) (placeOf (h .service .0))) space h)
-  unfolding nextFor
-  next-gives space =
-      let r : Row = getD (s .link .rows) n noRow in
-      let place : ℕ = placeOf (h .service .0) in
-      let below : place < 5 = place-below (h .service .0) in
-      let m : Reassembly = messageAt r place in
-      let id : ℕ = h .message .0 in
-      let f = fits place below in
-      let zero-on : 0 + place ≡ place = omega arith in
-      let note : getD (notesFrom s n 0 (r .messages)) place noNote ≡ noteOf s n place m = rw zero-on at (notes-at s n 0 (r .messages) place (omega (arith, five, below))) in
-      let P : Act → Type 0 = λ act. Gives q (dueFor (noteOf s n place m) id payload) (done act) in
-      subst (λ (x : Note). Gives q (dueFor x id payload) (done (nextFor m space h))) (sym note)
-      (unless-elim P (m .live) (Refuse 22) _ (λ _ z. absurd z) λ live.
-      unless-elim P (eqb (h .message .0) (m .id .0)) (Refuse 23) _ (λ _ z. absurd z) λ same.
-      unless-elim P (eqb (h .info) (dueNumber m)) (Drop 24) _ (λ _ z. absurd z) λ _.
-      unless-elim P (sized m (h .size)) (Drop 25) _ (λ _ z. absurd z) λ sizes.
-      let o = f .1 live in
-      let mine : id ≡ m .id .0 = eqb-true id (m .id .0) same in
-      unless-elim P (eqb (m .frames) 1) Append _
-      (λ more _.
-      subst (λ (d : Option (List ℕ)). DeliversDue d (record { command = call q; answer = done Append .answer; out = done Append .out }))
-      (sym (due-none s n place m id payload live mine (eqb-false (m .frames) 1 more) (o .some-frames) (o .frames-most))) refl) λ one.
-      let z : m .frames ≡ 1 = eqb-true (m .frames) 1 one in
-      let last : m .missing ≡ h .size = last-size m (h .size) sizes z in
-      unless-elim P (leb (m .total) space) (Refuse 11) Deliver (λ _ z. absurd z) λ _ _.
-      subst (λ (d : Option (List ℕ)). DeliversDue d (record { command = call q; answer = done Deliver .answer; out = done Deliver .out }))
-      (sym (due-whole s n place m id payload live mine z (o .frames-most)))
-      (sym (whole place below m refl live last (o .missing-most)), ap (λ (x : List ℕ). laid x (q .out)) (joined place below m refl live last (o .missing-most))))
+  -- the note at the frame's place
+  note-here : getD (notesFrom s n 0 (getD (s .link .rows) n noRow .messages)) place noNote ≡ noteOf s n place m
+  note-here = note-at s n (getD (s .link .rows) n noRow) place (omega (arith, facts .five, place-below (h .service .0)))
 
   -- every decision gives what is due
-  decision-gives : (space : ℕ) → Owes (askOf h payload) (decisionOf (s .link) n h payload space)
-  unfolding decisionOf askOf contentOf
-  decision-gives space =
-      let r : Row = getD (s .link .rows) n noRow in
-      let b : ℕ = barredBy (s .link .version .major) (s .link .mtu) r h in
-      unless-elim (Owes (askOf h payload)) (eqb b 0) (Refuse b) _ (λ _ z. absurd z) λ _.
-      both-by Owes (eqb (h .kind) 0) _ _ _ _
-      (λ _. either (λ (a : Ask). Owes a (controlOf r h (saidOf r payload))) (eqb (h .info) 0x04) (end (placeOf (h .service .0))) other
-      (λ _ _. control-quiet r (saidOf r payload)) (λ _ _. control-quiet r (saidOf r payload))) λ _.
-      both-by Owes (eqb (h .kind) 1) _ _ _ _ (λ _. single-gives space) λ _.
-      both-by Owes (eqb (h .kind) 2) _ _ _ _ (λ _ _. first-quiet r _ _ _) (λ _. next-gives space)
+  gives : {ask : Ask} {act : Act} → Decided (s .link) n h (payloadIn q e) ask act → Owes ask act
+  gives (refuses b) = λ z. absurd z
+  gives accepts = λ _. refl
+  gives beats = λ _. refl
+  gives starts = λ _. refl
+  gives starts-not = λ _. refl
+  gives (stops d) = λ _. refl
+  gives (closes d) = λ _. refl
+  gives ends-not = λ _. refl
+  gives (hands-over p) = λ _. (refl, refl)
+  gives (claims p a b c d e) = λ _. refl
+  gives (drops d o) = λ z. absurd z
+  gives (appends c sizes more) =
+      let o = facts .fits place (place-below (h .service .0)) .1 (c .live) in
+      λ _. rw (note-here, due-none s n place m (h .message .0) (payloadIn q e) (c .live) (c .same) more (o .some-frames) (o .frames-most))
+  gives (delivers c sizes one) =
+      let payload : List ℕ = payloadIn q e in
+      let o = facts .fits place (place-below (h .service .0)) .1 (c .live) in
+      let held = facts .room place (place-below (h .service .0)) in
+      let last : m .missing ≡ length payload = last-size m (h .size) sizes one ∙ sym (payload-length (q .input) h e f) in
+      let all : m .total - (m .missing - length payload) ≡ m .total = omega arith in
+      λ _. rw (note-here, due-whole s n place m (h .message .0) payload (c .live) (c .same) one (o .frames-most)) (
+        sym (whole s k n place m payload (c .live) (o .missing-most) (omega arith) held last),
+        ap (λ (x : List ℕ). laid x (q .out)) (rw all at (joined s k n place m payload (c .live) (o .missing-most) (omega arith) held)),
+      )
 
--- the page of an open session
-pub page-of : (s : State) (i : ℕ) → isOpen s i ≡ true → pages s i ≡ some (pageOf s (indexOf i (s .link .rows)) (getD (s .link .rows) (indexOf i (s .link .rows)) noRow))
-unfolding pages rowOf
-page-of s i e = rw e
+  pub row-gives : Gives q (dueOn (pages s (h .session .0)) (askOf h (payloadIn q e))) (rowCall s q h e)
+  row-gives = rw (page-of s (h .session .0) opened) (gives (decided (s .link) n h (payloadIn q e) (length (q .out))))
 
-pub is-open : (s : State) (i : ℕ) → not (eqb i 0) && ltb (indexOf i (s .link .rows)) (length (s .link .rows)) ≡ true → isOpen s i ≡ true
-unfolding isOpen
-is-open s i e = e
-
-module _ (s : State) (q : Request) (k : Sane s) where
-  -- a frame of a session's row
-  pub row-gives : (h : Header) (e : Extent) → readOf (q .input) ≡ reading.Frame h e → isOpen s (h .session .0) ≡ true
-      → (let payload : List ℕ = part (q .input) (e .start) (e .end - e .start) in
-      let n : ℕ = indexOf (h .session .0) (s .link .rows) in
-      Gives q (dueOn (pages s (h .session .0)) (askOf h payload))
-      (applied (s .link) n (s .pool) (q .out) h (e .consumed) payload (q .grant) (decisionOf (s .link) n h payload (length (q .out)))))
-  row-gives h e f o =
-      let i : ℕ = h .session .0 in
-      let n : ℕ = indexOf i (s .link .rows) in
-      let payload : List ℕ = part (q .input) (e .start) (e .end - e .start) in
-      let r = open-facts s i k o in
-      subst (λ (p : Option Page). Gives q (dueOn p (askOf h payload))
-      (applied (s .link) n (s .pool) (q .out) h (e .consumed) payload (q .grant) (decisionOf (s .link) n h payload (length (q .out)))))
-      (sym (page-of s i o))
-      (decision-gives s q n h (e .consumed) payload k (payload-length (q .input) h e f) (r .five) (r .fits) (r .room) (length (q .out)))
-
-  frame-gives : (h : Header) (e : Extent) → readOf (q .input) ≡ reading.Frame h e
-      → Gives q (dueIn (pages s) (seenIn (q .input) (reading.Frame h e))) (frameOf (s .link) (s .pool) (q .input) (q .out) h e (q .grant))
-  unfolding frameOf
-  frame-gives h e f =
-      let payload : List ℕ = part (q .input) (e .start) (e .end - e .start) in
-      let i : ℕ = h .session .0 in
-      let seen : Seen = within i (askOf h payload) in
-      unless-elim (Gives q (dueIn (pages s) (pick (opens h) opening seen))) (leb 128 (length (q .out))) _ _ (λ _ z. absurd z) λ _.
-      both-by (λ (x : Seen) (w : After). Gives q (dueIn (pages s) x) w) (opens h) opening seen _ _
-      (λ _ _. opening-quiet (s .link) (s .pool) (q .out) (e .consumed) (q .grant) (wishOf (s .link .version .major) payload)) λ _.
-      unless-elim (Gives q (dueIn (pages s) seen)) (not (eqb i 0) && ltb (indexOf i (s .link .rows)) (length (s .link .rows))) _ _ (λ _ z. absurd z) (λ o. row-gives h e f (is-open s i o))
-
-  reading-gives : (r : Reading) → readOf (q .input) ≡ r → Gives q (dueIn (pages s) (seenIn (q .input) r)) (readingOf (s .link) (s .pool) (q .input) (q .out) (q .grant) r)
-  reading-gives (reading.Short n) f = λ z. absurd z
-  reading-gives (reading.Refused n) f = λ z. absurd z
-  reading-gives (reading.Frame h e) f = frame-gives h e f
-
-  call-gives : Gives q (dueIn (pages s) (seenOf (q .input))) (callOf (s .link) (s .pool) (q .input) (q .out) (q .grant))
-  unfolding callOf seenOf
-  call-gives =
-      unless-elim (Gives q (dueIn (pages s) (seenIn (q .input) (readOf (q .input))))) (guardOf (s .link) (length (s .pool)) (q .grant)) _ _
-      (λ _ z. absurd z) (λ _. reading-gives (readOf (q .input)) refl)
+call-gives : (s : State) (q : Request) → Sane s → {x : Seen} {w : After} → Called (s .link) (s .pool) (q .input) (q .out) (q .grant) x w → Gives q (dueIn (pages s) x) w
+call-gives s q k short = λ z. absurd z
+call-gives s q k (refused b) = λ z. absurd z
+call-gives s q k nacked = λ _. refl
+call-gives s q k (acked t a v) = λ _. refl
+call-gives s q k (in-row h e f t b a) = row-gives s q k h e f (is-open s (h .session .0) a)
 
 -- the law
 pub hands : (s : State) (c : Command) → Sane s → T (isAccepted (eventOf s c .answer)) → DeliversDue (dueOf (pages s) c) (eventOf s c)
-hands s (call q) k t = call-gives s q k t
+hands s (call q) k t = call-gives s q k (called (s .link) (s .pool) (q .input) (q .out) (q .grant)) t

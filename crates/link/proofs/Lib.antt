@@ -1,6 +1,10 @@
 pub mod Lists
+pub mod Each
+pub mod Decisions
 pub mod Shown
 pub mod Table
+pub mod Calls
+pub mod RowFacts
 pub mod RowRules
 pub mod TableRules
 pub mod OpeningRules
@@ -14,8 +18,8 @@ pub mod SameAfter
 pub mod Settings
 pub mod Answers
 pub mod Holdings
-pub mod OpenRows
 pub mod Created
+pub mod CutFrames
 pub mod Arrival
 pub mod Demand
 pub mod Refusals

@@ -2,29 +2,23 @@
 -- Assumes nothing.
 use mathlib.Core.Path.{_≡_, refl, sym, ap, ap₂, subst, _∙_}
 use Prim.Native.Nat.{ℕ, _+_, _≤_}
-use mathlib.Core.Bool.{Bool, true, false, not, _&&_}
+use mathlib.Core.Bool.{Bool, true, false, not}
 use mathlib.Core.Option.{some}
 use mathlib.Core.List.{List, [], _∷_, _++_, map, append-assoc}
 use lib.Dec.{T}
+use lib.Ieee.Bits.{is-true, is-false}
 use Rattle.numbers.specs.Bytes.{pick}
+use Rattle.numbers.proofs.Choices.{either, onTest}
 use Rattle.blocks.specs.Map.{heldByAll, freeIn}
 use Rattle.session.specs.declared.Row.{Row}
-use Rattle.link.specs.Book.{Command, call, Event, opening, isAccepted, isAck, Page, Book, emptyBook, there, lowestIn, needsOf, bookAfter, bookOf, dueOf, names, closes, shuts, untilClosed, naming, ownOf, ModestIn, Modest}
+use Rattle.link.specs.Book.{Command, call, Event, opening, isAccepted, isAck, Page, Book, emptyBook, there, lowestIn, needsOf, bookAfter, bookOf, dueOf, names, shuts, untilClosed, naming, ownOf, ModestIn, Modest}
 use Rattle.link.specs.Claim.{State, stateAfter, eventOf, run, endOf, commandOf, isOpen, blocksOf, DeliversDue, AllDelivered, opensIt, Demand}
 use Rattle.link.specs.Pages.{rowOf, pages, Sane}
 
--- cases on a test, with what it says: the motive has the test's value for a variable
-onTest : (P : Bool → Type 0) (b : Bool) → (T b → P true) → (T (not b) → P false) → P b
-onTest P true f g = f tt
-onTest P false f g = g tt
-
-split : {P : Type 0} (b : Bool) → (T b → P) → (T (not b) → P) → P
+-- cases on a test, with what it says
+split : {X : Type 0} (b : Bool) → (T b → X) → (T (not b) → X) → X
 split true f g = f tt
 split false f g = g tt
-
-byTest : {X : Type 0} (P : X → Type 0) (b : Bool) (x y : X) → (T b → P x) → (T (not b) → P y) → P (pick b x y)
-byTest P true x y f g = f tt
-byTest P false x y f g = g tt
 
 -- a session in two states: one row, one page
 pub record Alike (i : ℕ) (s₁ s₂ : State) : Type 0 where
@@ -65,20 +59,13 @@ event-command s (call q) = refl
 
 own-other : (i : ℕ) (e : Event) (l : List Event) → T (not (names i (e .command))) → ownOf i (e ∷ l) ≡ ownOf i l
 unfolding ownOf untilClosed naming shuts
-own-other i e l t =
-    let x : Bool = closes (e .command) (e .answer) in
-    onTest (λ (n : Bool). T (not n) → pick n (e ∷ naming i (pick (n && x) [] (untilClosed i l))) (naming i (pick (n && x) [] (untilClosed i l))) ≡ naming i (untilClosed i l))
-    (names i (e .command)) (λ _ z. absurd z) (λ _ z. refl) t
+own-other i e l t = rw (is-false (names i (e .command)) t)
 
 own-mine : (i : ℕ) (e : Event) (l : List Event) → T (names i (e .command)) → ownOf i (e ∷ l) ≡ e ∷ pick (shuts i e) [] (ownOf i l)
 unfolding ownOf untilClosed naming
 own-mine i e l t =
-    onTest (λ (n : Bool). T n → pick n (e ∷ naming i (pick (shuts i e) [] (untilClosed i l))) (naming i (pick (shuts i e) [] (untilClosed i l))) ≡ e ∷ pick (shuts i e) [] (naming i (untilClosed i l)))
-    (names i (e .command)) (λ _ _. ap (λ (y : List Event). e ∷ y) (naming-pick (shuts i e))) (λ _ z. absurd z) t
-  where
-    naming-pick : (b : Bool) → naming i (pick b [] (untilClosed i l)) ≡ pick b [] (naming i (untilClosed i l))
-    naming-pick true = refl
-    naming-pick false = refl
+    rw (is-true (names i (e .command)) t)
+    (ap (λ (y : List Event). e ∷ y) (onTest (λ (b : Bool). naming i (pick b [] (untilClosed i l)) ≡ pick b [] (naming i (untilClosed i l))) (shuts i e) (λ _. refl) (λ _. refl)))
 
 run-append : (s : State) (a b : List Command) → run s (a ++ b) ≡ run s a ++ run (endOf s a) b
 unfolding run endOf
@@ -89,18 +76,6 @@ end-append : (s : State) (a b : List Command) → endOf s (a ++ b) ≡ endOf (en
 unfolding endOf
 end-append s [] b = refl
 end-append s (c ∷ a) b = end-append (stateAfter s c) a b
-
-run-cons : (s : State) (c : Command) (cs : List Command) → run s (c ∷ cs) ≡ eventOf s c ∷ run (stateAfter s c) cs
-unfolding run
-run-cons s c cs = refl
-
-run-none : (s : State) (c : Command) → eventOf s c ∷ run (stateAfter s c) [] ≡ eventOf s c ∷ []
-unfolding run
-run-none s c = refl
-
-end-one : (s : State) (c : Command) → endOf s (c ∷ []) ≡ stateAfter s c
-unfolding endOf
-end-one s c = refl
 
 module _ (L : Laws) where
   -- run again alone, a session's own calls give the same events
@@ -132,11 +107,8 @@ module _ (L : Laws) where
       (same-cons i s₂ e (pick (shuts i e) [] l) g₂
       (subst (λ (x : Command). (T (names i x) → ModestIn (pages s₂ i) x (eventOf s₂ x .answer)) → (eventOf s₂ x ≡ e) × Same i (stateAfter s₂ x) (pick (shuts i e) [] l)) (sym ec) (λ m. (
         L .same-answer s₁ s₂ c i g₁ g₂ k t (m t),
-        byTest (Same i (stateAfter s₂ c)) (shuts i e) [] l (λ _ _. empty-run (stateAfter s₂ c)) (λ n. ih (L .same-after s₁ s₂ c i g₁ g₂ k t (m t) n)),
+        either (Same i (stateAfter s₂ c)) (shuts i e) [] l (λ _ _. refl) (λ n. ih (L .same-after s₁ s₂ c i g₁ g₂ k t (m t) (subst (λ (b : Bool). T (not b)) (sym n) tt))),
       ))))
-    where
-      empty-run : (s : State) → run s [] ≡ []
-      empty-run s = refl
 
   apart : (s₁ s₂ : State) (i : ℕ) (cs : List Command) → Sane s₁ → Sane s₂ → Alike i s₁ s₂ → Same i s₂ (ownOf i (run s₁ cs))
   unfolding ownOf run untilClosed naming
@@ -176,41 +148,41 @@ module _ (L : Laws) where
     subst (λ (b : Book). AllDelivered b (run (stateAfter s c) cs)) (sym (noted-next s c k)) (all-delivered (stateAfter s c) cs (L .sane s c k)),
   )
 
-  -- the demand, from any state within the rules whose book is empty
-  pub demanded : (s₀ : State) → Sane s₀ → pages s₀ ≡ emptyBook → (cs : List Command) → Demand s₀ cs
-  demanded s₀ k₀ e₀ cs =
-      let shows : (l : List Command) → bookOf emptyBook (run s₀ l) ≡ pages (endOf s₀ l) = λ l. ap (λ (b : Book). bookOf b (run s₀ l)) (sym e₀) ∙ book-agrees s₀ l k₀ in
-      let k : Sane (endOf s₀ cs) = all-sane s₀ cs k₀ in
-      record {
-        sessions = λ i. L .shown (endOf s₀ cs) i k ∙ ap (λ (b : Book). there (b i)) (sym (shows cs));
-        room = λ i p q. L .holds (endOf s₀ cs) i p k (ap (λ (b : Book). b i) (sym (shows cs)) ∙ q);
-        blocks = L .all-blocks (endOf s₀ cs) k;
-        delivered = subst (λ (b : Book). AllDelivered b (run s₀ cs)) e₀ (all-delivered s₀ cs k₀);
-        isolated = λ before rest o q v a m. alone before rest o v a shows m;
-      }
-    where
-      alone : (before rest : List Command) (o : Command) → opensIt o ≡ opening → T (isAck (eventOf (endOf s₀ before) o .answer))
-          → ((l : List Command) → bookOf emptyBook (run s₀ l) ≡ pages (endOf s₀ l))
-          → (let i : ℕ = lowestIn (bookOf emptyBook (run s₀ before)) 255 1 in
-          let s₁ : State = stateAfter (endOf s₀ before) o in
-          let own : List Event = ownOf i (run s₁ rest) in
-          Modest i (bookOf emptyBook (run s₀ (before ++ o ∷ []))) (run s₁ (map commandOf own))
-          → run s₀ (before ++ o ∷ map commandOf own) ≡ run s₀ (before ++ o ∷ []) ++ own)
-      alone before rest o v a shows m =
-          let s : State = endOf s₀ before in
-          let s₁ : State = stateAfter s o in
-          let ks : Sane s = all-sane s₀ before k₀ in
-          let k₁ : Sane s₁ = L .sane s o ks in
-          let i : ℕ = lowestIn (bookOf emptyBook (run s₀ before)) 255 1 in
-          let is : lowestIn (pages s) 255 1 ≡ i = ap (λ (b : Book). lowestIn b 255 1) (sym (shows before)) in
-          let r = L .opens s o ks v a in
-          let row : rowOf s₁ i ≡ some (r .0) = ap (λ (j : ℕ). rowOf s₁ j) (sym is) ∙ r .1 in
-          let s₁-is : endOf s₀ (before ++ o ∷ []) ≡ s₁ = end-append s₀ before (o ∷ []) ∙ end-one s o in
-          let own : List Event = ownOf i (run s₁ rest) in
-          let b₁ : bookOf emptyBook (run s₀ (before ++ o ∷ [])) ≡ pages s₁ = shows (before ++ o ∷ []) ∙ ap pages s₁-is in
-          let again : run s₁ (map commandOf own) ≡ own
-          = apart s₁ s₁ i rest k₁ k₁ (record { the-row = r .0; row₁ = row; row₂ = row; page = refl; version = refl; mtu = refl }) (subst (λ (b : Book). Modest i b (run s₁ (map commandOf own))) b₁ m) in
-          run-append s₀ before (o ∷ map commandOf own)
-          ∙ ap (λ (y : List Event). run s₀ before ++ y) (run-cons s o (map commandOf own) ∙ ap (λ (y : List Event). eventOf s o ∷ y) again)
-          ∙ sym (ap (λ (y : List Event). y ++ own) (run-append s₀ before (o ∷ []) ∙ ap (λ (y : List Event). run s₀ before ++ y) (run-cons s o [] ∙ run-none s o))
-          ∙ append-assoc (run s₀ before) (eventOf s o ∷ []) own)
+  -- from any state within the rules whose book is empty
+  module _ (s₀ : State) (k₀ : Sane s₀) (e₀ : pages s₀ ≡ emptyBook) where
+    shows : (l : List Command) → bookOf emptyBook (run s₀ l) ≡ pages (endOf s₀ l)
+    shows l = ap (λ (b : Book). bookOf b (run s₀ l)) (sym e₀) ∙ book-agrees s₀ l k₀
+
+    alone : (before rest : List Command) (o : Command) → opensIt o ≡ opening → T (isAck (eventOf (endOf s₀ before) o .answer))
+        → (let i : ℕ = lowestIn (bookOf emptyBook (run s₀ before)) 255 1 in
+        let s₁ : State = stateAfter (endOf s₀ before) o in
+        let own : List Event = ownOf i (run s₁ rest) in
+        Modest i (bookOf emptyBook (run s₀ (before ++ o ∷ []))) (run s₁ (map commandOf own))
+        → run s₀ (before ++ o ∷ map commandOf own) ≡ run s₀ (before ++ o ∷ []) ++ own)
+    unfolding run endOf
+    alone before rest o v a m =
+        let s : State = endOf s₀ before in
+        let s₁ : State = stateAfter s o in
+        let ks : Sane s = all-sane s₀ before k₀ in
+        let k₁ : Sane s₁ = L .sane s o ks in
+        let i : ℕ = lowestIn (bookOf emptyBook (run s₀ before)) 255 1 in
+        let r = L .opens s o ks v a in
+        let row : rowOf s₁ i ≡ some (r .0) = ap (λ (b : Book). rowOf s₁ (lowestIn b 255 1)) (shows before) ∙ r .1 in
+        let own : List Event = ownOf i (run s₁ rest) in
+        let b₁ : bookOf emptyBook (run s₀ (before ++ o ∷ [])) ≡ pages s₁ = shows (before ++ o ∷ []) ∙ ap pages (end-append s₀ before (o ∷ [])) in
+        let again : run s₁ (map commandOf own) ≡ own
+        = apart s₁ s₁ i rest k₁ k₁ (record { the-row = r .0; row₁ = row; row₂ = row; page = refl; version = refl; mtu = refl }) (subst (λ (b : Book). Modest i b (run s₁ (map commandOf own))) b₁ m) in
+        run-append s₀ before (o ∷ map commandOf own) ∙ ap (λ (y : List Event). run s₀ before ++ eventOf s o ∷ y) again
+        ∙ sym (ap (λ (y : List Event). y ++ own) (run-append s₀ before (o ∷ [])) ∙ append-assoc (run s₀ before) (eventOf s o ∷ []) own)
+
+    -- the demand
+    pub demanded : (cs : List Command) → Demand s₀ cs
+    demanded cs =
+        let k : Sane (endOf s₀ cs) = all-sane s₀ cs k₀ in
+        record {
+          sessions = λ i. L .shown (endOf s₀ cs) i k ∙ ap (λ (b : Book). there (b i)) (sym (shows cs));
+          room = λ i p q. L .holds (endOf s₀ cs) i p k (ap (λ (b : Book). b i) (sym (shows cs)) ∙ q);
+          blocks = L .all-blocks (endOf s₀ cs) k;
+          delivered = subst (λ (b : Book). AllDelivered b (run s₀ cs)) e₀ (all-delivered s₀ cs k₀);
+          isolated = λ before rest o q v a m. alone before rest o v a m;
+        }

@@ -1,78 +1,41 @@
 -- The page of a session after a frame of it: what the book notes of the frame and its answer is what the row and its blocks then show.
 -- By the decision's cases, each of which sets one message at most.
 -- Assumes nothing.
-use Prim.Native.Nat.{ℕ, zero, suc, _+_, _-_, _*_, _≤_, _<_, max}
-use mathlib.Core.Path.{_≡_, refl, ap, _∙_, sym, subst}
-use mathlib.Core.Bool.{Bool, true, false, _&&_, _||_, not}
+use Prim.Native.Nat.{ℕ, zero, suc, _+_, _-_, _≤_}
+use mathlib.Core.Path.{_≡_, refl, ap, _∙_, sym}
+use mathlib.Core.Logic.{_⊎_, ⊎-elim}
+use mathlib.Core.Bool.{true, false, _||_}
 use mathlib.Core.Option.{Option, none, some}
 use mathlib.Core.List.{List, [], _∷_, _++_}
 use native.Mathlib.Omega.{arith}
 use lib.Dec.{eqb, leb}
 use lib.ListN.{length, getD, set, length-set, take}
 use lib.Seq.{getD-set-same}
-use borrow.Author.Tests.{eqb-true, eqb-false, leb-true, eq-eqb, ne-eqb, lt-ltb, le-ltb}
-use Rattle.numbers.proofs.Choices.{and-both, either, unless-elim}
+use borrow.Author.Tests.{leb-true, eq-eqb, ne-eqb, lt-ltb}
+use Rattle.numbers.proofs.Choices.{and-both}
 use Rattle.frame.specs.declared.Header.{Header}
 use Rattle.frame.specs.declared.MessageId.{MessageId}
-use Rattle.frame.specs.declared.ServiceType.{ServiceType}
-use Rattle.frame.specs.Message.{totalsFit}
-use Rattle.blocks.specs.Map.{heldBy as blocksOf, claimed, released}
+use Rattle.blocks.specs.Map.{claimed, released}
 use Rattle.blocks.specs.Pool.{blockBytes, appended}
-use Rattle.blocks.proofs.Contents.{append-fits, append-others, claim-bytes, release-bytes}
+use Rattle.blocks.proofs.Contents.{append-others, claim-bytes, release-bytes}
 use Rattle.session.specs.declared.Reassembly.{Reassembly}
-use Rattle.session.specs.declared.Running.{Running}
 use Rattle.session.specs.declared.Row.{Row}
-use Rattle.session.specs.declared.Said.{Said}
 use Rattle.session.specs.declared.Act.{Act}
-use Rattle.session.specs.declared.Act.the-variants.{Refuse, Drop, Accept, Beat, Start, NoStart, Stop, Close, NoEnd, Claim, Append, Deliver, Single}
-use Rattle.session.specs.Rows.{noRow, freeRow, noReassembly, messageAt, withMessages, withMessageAt, settledRow, withService, announced, shortened, ackedRow, droppedRow}
-use Rattle.session.specs.Rules.{barredBy}
-use Rattle.session.specs.Decide.{placeOf, needOf, heldBy, heldOf, firstOf, dueNumber, sized, nextFor, singleOf, startable, startOf, endable, hashOf, endOf, controlOf, contentOf, rowAfter}
+use Rattle.session.specs.declared.Act.the-variants.{Drop, Claim, Append, Deliver}
+use Rattle.session.specs.Rows.{noRow, freeRow, noReassembly, messageAt, announced, shortened, droppedRow}
+use Rattle.session.specs.Decide.{placeOf, needOf, sized, rowAfter}
+use Rattle.link.specs.declared.Answer.the-variants as answer
 use Rattle.link.specs.State.{indexOf, ownerOf, withRow, withOwners}
-use Rattle.link.specs.Call.{After, saidOf, decisionOf, applied}
-use Rattle.link.specs.Book.{Request, Ask, single, first, next, end, other, askOf, Note, noNote, Page, noteAt, withNote, isUnder, added, struck, pageAfter}
+use Rattle.link.specs.Call.{After, applied}
+use Rattle.link.specs.Book.{Request, Ask, single, first, next, end, other, Note, noNote, Page, noteAt, withNote, isUnder, added, struck, pageAfter}
 use Rattle.link.specs.Claim.{State, isOpen}
 use Rattle.link.specs.Pages.{rowOf, noteOf, notesFrom, pageOf, pageIf, pages, Sane}
-use Rattle.link.proofs.Shown.{rules-say}
-use Rattle.link.proofs.Table.{index-set-same, index-set-gone}
-use Rattle.link.proofs.RowRules.{OpenFits, Fits, place-below, barred-most}
-use Rattle.link.proofs.Table.{owner-some}
-use Rattle.link.proofs.Deliveries.{notes-at, both-by, need-holds}
-
--- ---- rows
-
--- a row of the same session, with these messages
-record Shape (r x : Row) (ms : List Reassembly) : Type 0 where
-  pub id : x .id .0 ≡ r .id .0
-  pub guarantee : x .guarantee ≡ r .guarantee
-  pub cap : x .cap ≡ r .cap
-  pub messages : x .messages ≡ ms
-
-same-shape : (r : Row) → Shape r r (r .messages)
-same-shape r = record { id = refl; guarantee = refl; cap = refl; messages = refl }
-
-set-shape : (r : Row) (place : ℕ) (m : Reassembly) → place < 5 → Shape r (withMessageAt r place m) (set (r .messages) place m)
-unfolding withMessageAt
-set-shape r place m b =
-    let e : withMessageAt r place m ≡ withMessages r (set (r .messages) place m) = rw (lt-ltb place 5 b) in
-    subst (λ (x : Row). Shape r x (set (r .messages) place m)) (sym e) (record { id = refl; guarantee = refl; cap = refl; messages = refl })
-
-module _ (r x : Row) (ms : List Reassembly) (k : Shape r x ms) where
-  settled-shape : (v : ℕ) → Shape r (settledRow x v) ms
-  unfolding settledRow
-  settled-shape v =
-      either (λ (y : Row). Shape r y ms) (eqb (x .version) 0) _ x
-      (λ _. record { id = k .id; guarantee = k .guarantee; cap = k .cap; messages = k .messages }) (λ _. k)
-
-  service-shape : (s : ServiceType) (running : Running) → Shape r (withService x s running) ms
-  unfolding withService
-  service-shape s running =
-      let P : Row → Type 0 = λ y. Shape r y ms in
-      either P (eqb (s .0) 0x0A) _ _ (λ _. record { id = k .id; guarantee = k .guarantee; cap = k .cap; messages = k .messages }) λ _.
-      either P (eqb (s .0) 0x0B) _ x (λ _. record { id = k .id; guarantee = k .guarantee; cap = k .cap; messages = k .messages }) (λ _. k)
-
-  acked-shape : Shape r (ackedRow x) ms
-  acked-shape = record { id = k .id; guarantee = k .guarantee; cap = k .cap; messages = k .messages }
+use Rattle.link.proofs.Shown.{rules-say, page-of, closed-page, missing-closed}
+use Rattle.link.proofs.Table.{index-set-same, index-set-gone, owner-some}
+use Rattle.link.proofs.RowFacts.{place-below, OpenFacts, open-facts}
+use Rattle.link.proofs.Decisions.{Continues, Decided, refuses, accepts, beats, starts, starts-not, stops, closes, ends-not, hands-over, claims, drops, appends, delivers}
+use Rattle.link.proofs.Deliveries.{note-at, joined}
+use Rattle.link.proofs.Others.{Sizes, sizesWith, sizes, set-sizes, settled-sizes, service-sizes, notes-same}
 
 -- ---- notes
 
@@ -86,11 +49,6 @@ module _ (s t : State) (n : ℕ) where
   abbrev SameAt : ℕ → Type 0
   SameAt q = blockBytes (ownerOf n q) (t .link .owners) (t .pool) ≡ blockBytes (ownerOf n q) (s .link .owners) (s .pool)
 
-  notes-same : (from : ℕ) (ms : List Reassembly) → ((q : ℕ) → from ≤ q → SameAt q) → notesFrom t n from ms ≡ notesFrom s n from ms
-  unfolding notesFrom noteOf
-  notes-same from [] f = refl
-  notes-same from (m ∷ ms) f = rw (f from (omega arith), notes-same (suc from) ms (λ q h. f q (omega arith)))
-
   -- one message set, one note set
   notes-set : (from : ℕ) (ms : List Reassembly) (k : ℕ) (m : Reassembly) → ((q : ℕ) → (q ≡ from + k → ⊥) → SameAt q)
       → notesFrom t n from (set ms k m) ≡ set (notesFrom s n from ms) k (noteOf t n (from + k) m)
@@ -98,7 +56,7 @@ module _ (s t : State) (n : ℕ) where
   notes-set from [] k m f = refl
   notes-set from (a ∷ ms) zero m f =
       let z : from + 0 ≡ from = omega arith in
-      rw (z, notes-same (suc from) ms (λ q h. f q (λ e. omega arith)))
+      rw (z, notes-same s t n (suc from) ms (λ q a b. f q (λ e. omega arith)))
   notes-set from (a ∷ ms) (suc k) m f =
       let z : from + suc k ≡ suc from + k = omega arith in
       rw (z, note-same from a (f from (λ e. omega arith)), notes-set (suc from) ms k m (λ q d. f q (λ e. d (omega arith))))
@@ -110,24 +68,6 @@ no-note : (t : State) (n place : ℕ) → noteOf t n place noReassembly ≡ noNo
 unfolding noteOf
 no-note t n place = refl
 
--- ---- sessions that are not open
-
--- no page
-pub closed-page : (t : State) (i : ℕ) → isOpen t i ≡ false → pages t i ≡ none
-unfolding pages rowOf
-closed-page t i e = rw e
-
--- an id that no row has
-pub missing-closed : (t : State) (i : ℕ) → indexOf i (t .link .rows) ≡ length (t .link .rows) → isOpen t i ≡ false
-unfolding isOpen
-missing-closed t i e =
-    let n : ℕ = length (t .link .rows) in
-    rw (e, le-ltb n n (omega arith)) (and-no (not (eqb i 0)))
-  where
-    and-no : (b : Bool) → b && false ≡ false
-    and-no true = refl
-    and-no false = refl
-
 -- ---- small facts
 
 -- the note of a message of which nothing has come
@@ -138,6 +78,19 @@ announced-note t n place id total count =
     let a : count - count ≡ 0 = omega arith in
     let b : total - total ≡ 0 = omega arith in
     rw (a, b)
+
+-- refusals but 24 and 25 are not noted
+pub refused-page : (p : Page) (ask : Ask) (c : ℕ) → c ≤ 23 → pageAfter p ask (answer.Refused c) ≡ some p
+refused-page p (single x) c b = refl
+refused-page p (first place id total count) c b = refl
+refused-page p (next place id x) c b = rw (ne-eqb c 24 (λ e. omega arith), ne-eqb c 25 (λ e. omega arith))
+refused-page p (end place) c b = refl
+refused-page p other c b = refl
+
+-- a frame is no longer than what is missing
+sized-most : (m : Reassembly) (size : ℕ) → sized m size ≡ true → size ≤ m .missing
+unfolding sized
+sized-most m size e = leb-true size (m .missing) (and-both (leb size (m .missing)) _ e .0)
 
 -- a frame of an open message in the book: not the last, or the last
 module _ (p : Page) (place id : ℕ) (payload : List ℕ) (x : Note) (e : noteAt p place ≡ x) (u : isUnder x id ≡ true) where
@@ -151,88 +104,69 @@ module _ (p : Page) (place id : ℕ) (payload : List ℕ) (x : Note) (e : noteAt
   unfolding added
   added-last f = rw (e, u, f)
 
-place-one : (service : ℕ) → eqb service 0x07 ≡ true → placeOf service ≡ 1
-unfolding placeOf
-place-one service e = let z : service ≡ 0x07 = eqb-true service 0x07 e in rw z
-
-place-other : (service : ℕ) → eqb service 0x07 ≡ false → placeOf service ≡ 1 → ⊥
-unfolding placeOf
-place-other service e =
-    let P : ℕ → Type 0 = λ p. p ≡ 1 → ⊥ in
-    either P (eqb service 0x00) 0 _ (λ _ z. omega arith) λ _.
-    rw e
-    (either P (eqb service 0x0A) 2 _ (λ _ z. omega arith) λ _.
-    either P (eqb service 0x0B) 3 4 (λ _ z. omega arith) (λ _ z. omega arith))
-
-pub never : _≡_ {A = Bool} true false → ⊥
-never e = let z : _≡_ {A = ℕ} 0 1 = cc in omega arith
-
 -- ---- the page of an open session: n its row's place, r the row
 
-module _ (s : State) (i n : ℕ) (k : Sane s) (at : indexOf i (s .link .rows) ≡ n) (below : n < length (s .link .rows)) (some-id : i ≡ 0 → ⊥)
-    (mine : getD (s .link .rows) n noRow .id .0 ≡ i) where
+module _ (s : State) (i : ℕ) (k : Sane s) (opened : isOpen s i ≡ true) where
+  abbrev n : ℕ
+  n = indexOf i (s .link .rows)
+
   abbrev r : Row
-  r = getD (s .link .rows) n noRow
+  r = getD (s .link .rows) (indexOf i (s .link .rows)) noRow
+
+  facts : OpenFacts s i (indexOf i (s .link .rows))
+  facts = open-facts s i k opened
 
   abbrev page : Page
   page = pageOf s n r
 
   abbrev pub stored : Row → List ℕ → List ℕ → State
-  stored x owners pool = record { link = withOwners (withRow (s .link) n x) owners; pool = pool }
+  stored x owners pool = record { link = withOwners (withRow (s .link) (indexOf i (s .link .rows)) x) owners; pool = pool }
 
   -- the row stored is the session's
   pub stored-row : (x : Row) (owners pool : List ℕ) → x .id .0 ≡ r .id .0 → rowOf (stored x owners pool) i ≡ some x
   unfolding rowOf isOpen
   stored-row x owners pool e =
-      let index : indexOf i (set (s .link .rows) n x) ≡ n = index-set-same i (s .link .rows) n x e ∙ at in
-      let len : length (set (s .link .rows) n x) ≡ length (s .link .rows) = simp length-set in
-      rw (index, len, ne-eqb i 0 some-id, lt-ltb n (length (s .link .rows)) below, getD-set-same (s .link .rows) n x noRow below)
+      let rs : List Row = s .link .rows in
+      rw (index-set-same i rs n x e, length-set rs n x, ne-eqb i 0 (facts .some-id), lt-ltb n (length rs) (facts .below), getD-set-same rs n x noRow (facts .below))
 
-  abbrev pageWith : ℕ → ℕ → List Note → Option Page
-  pageWith g c ns = some (record { guarantee = g; cap = c; notes = ns })
+  abbrev pageWith : State → Sizes → Option Page
+  pageWith t z = some (record { guarantee = z .guarantee; cap = z .cap; notes = notesFrom t n 0 (z .messages) })
 
-  stored-page : (x : Row) (ms : List Reassembly) (owners pool : List ℕ) → Shape r x ms
-      → pages (stored x owners pool) i ≡ pageWith (r .guarantee) (r .cap) (notesFrom (stored x owners pool) n 0 ms)
+  stored-page : (x : Row) (ms : List Reassembly) (owners pool : List ℕ) → sizes x ≡ sizesWith r ms → pages (stored x owners pool) i ≡ pageWith (stored x owners pool) (sizesWith r ms)
   unfolding pages
   stored-page x ms owners pool e =
       let t : State = stored x owners pool in
-      let index : indexOf i (set (s .link .rows) n x) ≡ n = index-set-same i (s .link .rows) n x (e .id) ∙ at in
-      ap (λ (y : ℕ). pageIf t y (rowOf t i)) index
-      ∙ ap (λ (o : Option Row). pageIf t n o) (stored-row x owners pool (e .id))
-      ∙ ap (λ (y : ℕ). pageWith y (x .cap) (notesFrom t n 0 (x .messages))) (e .guarantee)
-      ∙ ap (λ (y : ℕ). pageWith (r .guarantee) y (notesFrom t n 0 (x .messages))) (e .cap)
-      ∙ ap (λ (y : List Reassembly). pageWith (r .guarantee) (r .cap) (notesFrom t n 0 y)) (e .messages)
+      let id : x .id .0 ≡ r .id .0 = ap (λ (z : Sizes). z .id) e in
+      ap (λ (y : ℕ). pageIf t y (rowOf t i)) (index-set-same i (s .link .rows) n x id) ∙ ap (λ (o : Option Row). pageIf t n o) (stored-row x owners pool id) ∙ ap (pageWith t) e
 
   -- no message set, no block touched
-  same-page : (x : Row) → Shape r x (r .messages) → pages (stored x (s .link .owners) (s .pool)) i ≡ some page
+  same-page : (x : Row) → sizes x ≡ sizes r → pages (stored x (s .link .owners) (s .pool)) i ≡ some page
   same-page x e =
+      let t : State = stored x (s .link .owners) (s .pool) in
       stored-page x (r .messages) (s .link .owners) (s .pool) e
-      ∙ ap (λ (y : List Note). pageWith (r .guarantee) (r .cap) y) (notes-same s (stored x (s .link .owners) (s .pool)) n 0 (r .messages) (λ q _. refl))
+      ∙ ap (λ (y : List Note). some (record { guarantee = r .guarantee; cap = r .cap; notes = y })) (notes-same s t n 0 (r .messages) (λ q _ _. refl))
 
   -- one message set
-  set-page : (x : Row) (place : ℕ) (m : Reassembly) (owners pool : List ℕ) (note : Note) → Shape r x (set (r .messages) place m)
+  set-page : (x : Row) (place : ℕ) (m : Reassembly) (owners pool : List ℕ) (note : Note) → sizes x ≡ sizesWith r (set (r .messages) place m)
       → ((q : ℕ) → (q ≡ place → ⊥) → SameAt s (stored x owners pool) n q) → noteOf (stored x owners pool) n place m ≡ note
       → pages (stored x owners pool) i ≡ some (withNote page place note)
   set-page x place m owners pool note e others f =
       let t : State = stored x owners pool in
       let z : 0 + place ≡ place = omega arith in
       stored-page x (set (r .messages) place m) owners pool e
-      ∙ ap (λ (y : List Note). pageWith (r .guarantee) (r .cap) y)
-      (notes-set s t n 0 (r .messages) place m (λ q d. others q (λ u. d (omega arith)))
-      ∙ ap (λ (y : ℕ). set (notesFrom s n 0 (r .messages)) place (noteOf t n y m)) z
+      ∙ ap (λ (y : List Note). some (record { guarantee = r .guarantee; cap = r .cap; notes = y }))
+      (notes-set s t n 0 (r .messages) place m (λ q d. others q (λ u. d (omega arith))) ∙ ap (λ (y : ℕ). set (notesFrom s n 0 (r .messages)) place (noteOf t n y m)) z
       ∙ ap (λ (y : Note). set (notesFrom s n 0 (r .messages)) place y) f)
 
   -- a closed session has no page
-  pub gone-page : (owners pool : List ℕ) → pages (stored freeRow owners pool) i ≡ none
-  gone-page owners pool =
-      closed-page (stored freeRow owners pool) i (missing-closed (stored freeRow owners pool) i
-      (index-set-gone i (s .link .rows) n freeRow (rules-say (s .link) (k .rules) .ids) below mine some-id (λ e. some-id (sym e))))
+  pub gone-page : (x : Row) (owners pool : List ℕ) → x .id .0 ≡ 0 → pages (stored x owners pool) i ≡ none
+  gone-page x owners pool e =
+      closed-page (stored x owners pool) i (missing-closed (stored x owners pool) i
+      (index-set-gone i (s .link .rows) n x (rules-say (s .link) (k .rules) .ids) (facts .below) (facts .mine) (facts .some-id) (λ z. facts .some-id (sym z ∙ e))))
 
   -- ---- after a decision: h the frame's header, payload its payload
 
-  module _ (q : Request) (h : Header) (consumed : ℕ) (payload : List ℕ) (size : length payload ≡ h .size) (five : length (getD (s .link .rows) n noRow .messages) ≡ 5)
-      (fits : (place : ℕ) → place < 5 → (b : Bool) × Fits b (messageAt (getD (s .link .rows) n noRow) place))
-      (room : (place : ℕ) → place < 5 → blocksOf (ownerOf n place) (s .link .owners) ≡ heldBy (messageAt (getD (s .link .rows) n noRow) place)) where
+  module _ (q : Request) (h : Header) (consumed : ℕ) (payload : List ℕ) (size : length payload ≡ h .size) where
     abbrev done : Act → After
     done act = applied (s .link) n (s .pool) (q .out) h consumed payload (q .grant) act
 
@@ -251,8 +185,7 @@ module _ (s : State) (i n : ℕ) (k : Sane s) (at : indexOf i (s .link .rows) �
 
     -- where nothing is done
     open-page : pages s i ≡ some page
-    unfolding pages rowOf isOpen
-    open-page = rw (at, ne-eqb i 0 some-id, lt-ltb n (length (s .link .rows)) below)
+    open-page = page-of s i opened
 
     -- blocks of other places: freed, filled, claimed at this one
     freed : (pool : List ℕ) (p : ℕ) → (p ≡ place → ⊥)
@@ -265,38 +198,25 @@ module _ (s : State) (i n : ℕ) (k : Sane s) (at : indexOf i (s .link .rows) �
 
     -- the note at the frame's place
     here : noteAt page place ≡ noteOf s n place m
-    here =
-        let z : 0 + place ≡ place = omega arith in
-        rw z at (notes-at s n 0 (r .messages) place (omega (arith, five, place-below (h .service .0))))
+    here = note-at s n r place (omega (arith, facts .five, place-below (h .service .0)))
 
     -- a message that goes
     dropped : (pool : List ℕ) → ((p : ℕ) → (p ≡ place → ⊥) → blockBytes (ownerOf n p) (s .link .owners) pool ≡ blockBytes (ownerOf n p) (s .link .owners) (s .pool))
-        → (x : Row) → Shape r x (set (r .messages) place noReassembly)
+        → (x : Row) → sizes x ≡ sizesWith r (set (r .messages) place noReassembly)
         → pages (stored x (released (ownerOf n place) (ownerOf n place) (s .link .owners)) pool) i ≡ some (withNote page place noNote)
     dropped pool f x e =
         set-page x place noReassembly (released (ownerOf n place) (ownerOf n place) (s .link .owners)) pool noNote e
         (λ p d. freed pool p d ∙ f p d) (no-note (stored x (released (ownerOf n place) (ownerOf n place) (s .link .owners)) pool) n place)
 
-    drop-shape : Shape r (droppedRow r place) (set (r .messages) place noReassembly)
-    drop-shape = set-shape r place noReassembly (place-below (h .service .0))
-
-    -- an open message under the frame's id is the one that the book finds
-    under : m .live ≡ true → h .message .0 ≡ m .id .0 → isUnder (noteAt page place) (h .message .0) ≡ true
-    unfolding noteOf
-    under live same =
-        ap (λ (x : Note). isUnder x (h .message .0)) here
-        ∙ rw (live, eq-eqb (m .id .0) (h .message .0) (sym same))
-
-    struck-is : m .live ≡ true → h .message .0 ≡ m .id .0 → struck page place (h .message .0) ≡ withNote page place noNote
-    unfolding struck
-    struck-is live same = rw (under live same)
+    drop-sizes : sizes (droppedRow r place) ≡ sizesWith r (set (r .messages) place noReassembly)
+    drop-sizes = set-sizes r place noReassembly (place-below (h .service .0))
 
     claim-tells : (total count : ℕ) → Tells (first place (h .message .0) total count) (Claim total count)
     claim-tells total count =
         let x : Row = rowAfter r h (q .grant .hash) (Claim total count) in
         let owners : List ℕ = claimed (ownerOf n place) (needOf total) (s .link .owners) in
         sym (set-page x place (announced (h .message) total count) owners (s .pool) _
-        (settled-shape r _ _ (set-shape r place (announced (h .message) total count) (place-below (h .service .0))) (h .version))
+        (settled-sizes _ (h .version) ∙ set-sizes r place (announced (h .message) total count) (place-below (h .service .0)))
         (λ p d. claim-bytes (ownerOf n p) (ownerOf n place) (needOf total) (s .link .owners) (s .pool) (owner-place n p place d) (owner-some n p))
         (announced-note (stored x owners (s .pool)) n place (h .message) total count))
 
@@ -311,135 +231,57 @@ module _ (s : State) (i n : ℕ) (k : Sane s) (at : indexOf i (s .link .rows) �
     unfolding noteOf
     met live = here ∙ rw live
 
-    -- a frame that is not the last: the bytes that were there and the payload are the first of the blocks
-    module _ (live : m .live ≡ true) (sizes : sized m (h .size) ≡ true) (fit : OpenFits (fits place (place-below (h .service .0)) .0) m) where
-      abbrev pool-after : List ℕ
-      pool-after = appended (ownerOf n place) (m .total - m .missing) payload (s .link .owners) (s .pool)
+    abbrev fed-pool : List ℕ
+    fed-pool = appended (ownerOf n place) (m .total - m .missing) payload (s .link .owners) (s .pool)
 
-      size-most : h .size ≤ m .missing
-      unfolding sized
-      size-most = leb-true (h .size) (m .missing) (and-both (leb (h .size) (m .missing)) _ sizes .0)
+    -- and the one that it leaves if it is not the last
+    fed-note : (x : Row) → Continues h m → sized m (h .size) ≡ true → noteOf (stored x (s .link .owners) fed-pool) n place (shortened m (h .size))
+        ≡ record { live = true; id = m .id .0; need = needOf (m .total); count = m .count; came = suc (m .count - m .frames); bytes = came ++ payload }
+    unfolding noteOf
+    fed-note x c fits =
+        let fit = facts .fits place (place-below (h .service .0)) .1 (c .live) in
+        let z : m .count - (m .frames - 1) ≡ suc (m .count - m .frames) = omega (arith, fit .some-frames, fit .frames-most) in
+        let j : take (m .total - (m .missing - h .size)) (blockBytes (ownerOf n place) (s .link .owners) fed-pool) ≡ came ++ payload
+        = rw size at (joined s k n place m payload (c .live) (fit .missing-most) (omega (arith, sized-most m (h .size) fits)) (facts .room place (place-below (h .service .0)))) in
+        rw (c .live, z, j)
 
-      has-room : m .total ≤ 256 * blocksOf (ownerOf n place) (s .link .owners)
-      unfolding heldBy
-      has-room =
-          let z : blocksOf (ownerOf n place) (s .link .owners) ≡ needOf (m .total) = room place (place-below (h .service .0)) ∙ rw live in
-          omega (arith, need-holds (m .total))
-
-      joined : take (m .total - (m .missing - h .size)) (blockBytes (ownerOf n place) (s .link .owners) pool-after) ≡ came ++ payload
-      joined =
-          let a = size-most in
-          let b = fit .missing-most in
-          let z : m .total - m .missing + length payload ≡ m .total - (m .missing - h .size) = omega arith in
-          rw z at (append-fits (ownerOf n place) (m .total - m .missing) payload (s .link .owners) (s .pool) (omega (arith, k .owners, k .pool)) (omega (arith, has-room)))
-
-      fed-note : (x : Row) → noteOf (stored x (s .link .owners) pool-after) n place (shortened m (h .size))
-          ≡ record { live = true; id = m .id .0; need = needOf (m .total); count = m .count; came = suc (m .count - m .frames); bytes = came ++ payload }
-      unfolding noteOf
-      fed-note x =
-          let a = fit .some-frames in
-          let b = fit .frames-most in
-          let z : m .count - (m .frames - 1) ≡ suc (m .count - m .frames) = omega arith in
-          rw (live, z, joined)
-
-    append-tells : m .live ≡ true → h .message .0 ≡ m .id .0 → sized m (h .size) ≡ true → (m .frames ≡ 1 → ⊥) → Tells (next place (h .message .0) payload) Append
-    append-tells live same sizes more =
-        let fit = fits place (place-below (h .service .0)) .1 live in
-        let a = fit .some-frames in
-        let b = fit .frames-most in
+    append-tells : Continues h m → sized m (h .size) ≡ true → (m .frames ≡ 1 → ⊥) → Tells (next place (h .message .0) payload) Append
+    append-tells c fits more =
+        let fit = facts .fits place (place-below (h .service .0)) .1 (c .live) in
         let x : Row = rowAfter r h (q .grant .hash) Append in
-        let pool : List ℕ = pool-after live sizes fit in
-        ap some (added-on page place (h .message .0) payload open-note (met live) (eq-eqb (m .id .0) (h .message .0) (sym same)) (ne-eqb (suc (m .count - m .frames)) (m .count) (λ z. more (omega arith))))
-        ∙ sym (set-page x place (shortened m (h .size)) (s .link .owners) pool _ (set-shape r place (shortened m (h .size)) (place-below (h .service .0)))
-        (filled (m .total - m .missing)) (fed-note live sizes fit x))
+        ap some (added-on page place (h .message .0) payload open-note (met (c .live)) (eq-eqb (m .id .0) (h .message .0) (sym (c .same)))
+        (ne-eqb (suc (m .count - m .frames)) (m .count) (λ z. more (omega (arith, fit .some-frames, fit .frames-most)))))
+        ∙ sym (set-page x place (shortened m (h .size)) (s .link .owners) fed-pool _ (set-sizes r place (shortened m (h .size)) (place-below (h .service .0)))
+        (filled (m .total - m .missing)) (fed-note x c fits))
 
     -- the last one
-    deliver-tells : m .live ≡ true → h .message .0 ≡ m .id .0 → m .frames ≡ 1 → Tells (next place (h .message .0) payload) Deliver
-    deliver-tells live same one =
-        let b = fits place (place-below (h .service .0)) .1 live .frames-most in
-        ap some (added-last page place (h .message .0) payload open-note (met live) (eq-eqb (m .id .0) (h .message .0) (sym same)) (eq-eqb (suc (m .count - m .frames)) (m .count) (omega arith)))
-        ∙ sym (dropped (appended (ownerOf n place) (m .total - m .missing) payload (s .link .owners) (s .pool)) (filled (m .total - m .missing)) (droppedRow r place) drop-shape)
+    deliver-tells : Continues h m → m .frames ≡ 1 → Tells (next place (h .message .0) payload) Deliver
+    deliver-tells c one =
+        let fit = facts .fits place (place-below (h .service .0)) .1 (c .live) in
+        ap some (added-last page place (h .message .0) payload open-note (met (c .live)) (eq-eqb (m .id .0) (h .message .0) (sym (c .same)))
+        (eq-eqb (suc (m .count - m .frames)) (m .count) (omega (arith, fit .frames-most))))
+        ∙ sym (dropped fed-pool (filled (m .total - m .missing)) (droppedRow r place) drop-sizes)
 
     -- 24 and 25
-    drop-tells : (c : ℕ) → m .live ≡ true → h .message .0 ≡ m .id .0 → some (struck page place (h .message .0)) ≡ pages (after (Drop c)) i
-    drop-tells c live same = ap some (struck-is live same) ∙ sym (dropped (s .pool) (λ _ _. refl) (droppedRow r place) drop-shape)
-
-    -- refusals but 24 and 25 are not noted
-    refuse-tells : (ask : Ask) (c : ℕ) → (c ≡ 24 → ⊥) → (c ≡ 25 → ⊥) → Tells ask (Refuse c)
-    refuse-tells (single x) c a b = sym open-page
-    refuse-tells (first p id total count) c a b = sym open-page
-    refuse-tells (next p id x) c a b = rw (ne-eqb c 24 a, ne-eqb c 25 b) (sym open-page)
-    refuse-tells (end p) c a b = sym open-page
-    refuse-tells other c a b = sym open-page
-
-    -- ---- control frames
-
-    end-tells : (said : Said) → Tells (end place) (endOf r h said)
-    unfolding endOf
-    end-tells said =
-        let P : Act → Type 0 = Tells (end place) in
-        unless-elim P (endable r (h .service .0)) (NoEnd false) _ (λ _. sym open-page) λ _.
-        unless-elim P (said .found && eqb (said .hash) (hashOf r (h .service .0))) (NoEnd (eqb (r .version) 5)) _ (λ _. sym open-page) λ _.
-        either P (eqb (h .service .0) 0x07) Close Stop
-        (λ e. rw (eq-eqb place 1 (place-one (h .service .0) e)) (sym (gone-page (released (ownerOf n 0) (ownerOf n 4) (s .link .owners)) (s .pool))))
-        (λ e. rw (ne-eqb place 1 (place-other (h .service .0) e))
-        (sym (dropped (s .pool) (λ _ _. refl) _ (acked-shape r _ _ (service-shape r _ _ drop-shape (h .service) _)))))
-
-    other-tells : (said : Said) → eqb (h .info) 0x04 ≡ false → Tells other (controlOf r h said)
-    unfolding controlOf startOf
-    other-tells said e =
-        let P : Act → Type 0 = Tells other in
-        either P (eqb (h .info) 0x01) _ _
-        (λ _. unless-elim P (startable r (h .service .0) && (not (eqb (r .version) 5) || said .readable)) NoStart Start (λ _. sym open-page)
-        (λ _. sym (same-page _ (acked-shape r _ _ (service-shape r r _ (same-shape r) (h .service) _))))) λ _.
-        either P (eqb (h .info) 0x04) _ _ (λ f. absurd (never (sym f ∙ e))) λ _.
-        either P (eqb (h .info) 0x00) Beat Accept (λ _. sym open-page) (λ _. sym open-page)
-
-    control-end : (said : Said) → eqb (h .info) 0x04 ≡ true → controlOf r h said ≡ endOf r h said
-    unfolding controlOf
-    control-end said e =
-        let z : h .info ≡ 4 = eqb-true (h .info) 4 e in
-        rw (ne-eqb (h .info) 1 (λ u. omega arith), e)
-
-    -- ---- content
-
-    single-tells : (space : ℕ) → Tells (single payload) (singleOf space h)
-    unfolding singleOf
-    single-tells space =
-        unless-elim (Tells (single payload)) (leb (h .size) space) (Refuse 11) Single (λ _. sym open-page)
-        (λ _. sym (same-page _ (settled-shape r r _ (same-shape r) (h .version))))
-
-    first-tells : (others total count : ℕ) → Tells (first place (h .message .0) total count) (firstOf r others h total count)
-    unfolding firstOf
-    first-tells others total count =
-        let P : Act → Type 0 = Tells (first place (h .message .0) total count) in
-        unless-elim P (totalsFit total count) (Refuse 18) _ (λ _. sym open-page) λ _.
-        unless-elim P (not (m .live)) (Refuse 19) _ (λ _. sym open-page) λ _.
-        unless-elim P (leb (heldOf r + needOf total) (r .cap)) (Refuse 20) _ (λ _. sym open-page) λ _.
-        unless-elim P (leb (others + max (heldOf r + needOf total) (r .guarantee)) 256) (Refuse 21) (Claim total count) (λ _. sym open-page) (λ _. claim-tells total count)
-
-    next-tells : (space : ℕ) → Tells (next place (h .message .0) payload) (nextFor m space h)
-    unfolding nextFor
-    next-tells space =
-        let P : Act → Type 0 = Tells (next place (h .message .0) payload) in
-        let o = fits place (place-below (h .service .0)) in
-        unless-elim P (m .live) (Refuse 22) _ (λ _. sym open-page) λ live.
-        unless-elim P (eqb (h .message .0) (m .id .0)) (Refuse 23) _ (λ _. sym open-page) λ e.
-        let same : h .message .0 ≡ m .id .0 = eqb-true (h .message .0) (m .id .0) e in
-        unless-elim P (eqb (h .info) (dueNumber m)) (Drop 24) _ (λ _. drop-tells 24 live same) λ _.
-        unless-elim P (sized m (h .size)) (Drop 25) _ (λ _. drop-tells 25 live same) λ sizes.
-        unless-elim P (eqb (m .frames) 1) Append _ (λ more. append-tells live same sizes (eqb-false (m .frames) 1 more)) λ one.
-        unless-elim P (leb (m .total) space) (Refuse 11) Deliver (λ _. sym open-page) (λ _. deliver-tells live same (eqb-true (m .frames) 1 one))
+    drop-tells : (c : ℕ) → (c ≡ 24) ⊎ (c ≡ 25) → Continues h m → Tells (next place (h .message .0) payload) (Drop c)
+    unfolding struck
+    drop-tells c d o =
+        let z : eqb c 24 || eqb c 25 ≡ true = ⊎-elim (λ e. rw e) (λ e. rw e) d in
+        let under : isUnder (noteAt page place) (h .message .0) ≡ true = ap (λ (x : Note). isUnder x (h .message .0)) (met (o .live)) ∙ eq-eqb (m .id .0) (h .message .0) (sym (o .same)) in
+        rw (z, under) (sym (dropped (s .pool) (λ _ _. refl) (droppedRow r place) drop-sizes))
 
     -- every decision is noted as it is
-    pub decision-tells : (space : ℕ) → Tells (askOf h payload) (decisionOf (s .link) n h payload space)
-    unfolding decisionOf askOf contentOf
-    decision-tells space =
-        let b : ℕ = barredBy (s .link .version .major) (s .link .mtu) r h in
-        unless-elim (Tells (askOf h payload)) (eqb b 0) (Refuse b) _
-        (λ _. let below : b ≤ 23 = barred-most (s .link .version .major) (s .link .mtu) r h in refuse-tells (askOf h payload) b (λ e. omega arith) (λ e. omega arith)) λ _.
-        both-by Tells (eqb (h .kind) 0) _ _ _ _
-        (λ _. either (λ (a : Ask). Tells a (controlOf r h (saidOf r payload))) (eqb (h .info) 0x04) (end place) other
-        (λ e. subst (Tells (end place)) (sym (control-end (saidOf r payload) e)) (end-tells (saidOf r payload))) (λ e. other-tells (saidOf r payload) e)) λ _.
-        both-by Tells (eqb (h .kind) 1) _ _ _ _ (λ _. single-tells space) λ _.
-        both-by Tells (eqb (h .kind) 2) _ _ _ _ (λ _. first-tells _ _ _) (λ _. next-tells space)
+    pub tells : {ask : Ask} {act : Act} → Decided (s .link) n h payload ask act → Tells ask act
+    tells {ask} (refuses {n = c} b) = refused-page page ask c b ∙ sym open-page
+    tells accepts = sym open-page
+    tells beats = sym open-page
+    tells starts = sym (same-page _ (service-sizes r (h .service) _))
+    tells starts-not = sym open-page
+    tells (stops d) = rw (ne-eqb place 1 d) (sym (dropped (s .pool) (λ _ _. refl) _ (service-sizes _ (h .service) _ ∙ drop-sizes)))
+    tells (closes d) = rw (eq-eqb place 1 d) (sym (gone-page freeRow (released (ownerOf n 0) (ownerOf n 4) (s .link .owners)) (s .pool) refl))
+    tells ends-not = sym open-page
+    tells (hands-over p) = sym (same-page _ (settled-sizes r (h .version)))
+    tells (claims p a b c d e) = claim-tells _ _
+    tells (drops d o) = drop-tells _ d o
+    tells (appends o fits more) = append-tells o fits more
+    tells (delivers o fits one) = deliver-tells o one

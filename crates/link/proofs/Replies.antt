@@ -3,7 +3,7 @@
 -- Assumes nothing.
 use Prim.Native.Nat.{ℕ, _+_, _^_, _-_, _≤_, _<_, min}
 use mathlib.Core.Path.{_≡_, refl, ap, _∙_, sym}
-use mathlib.Core.Bool.{Bool, true, false}
+use mathlib.Core.Bool.{Bool, true}
 use mathlib.Core.List.{List, _++_}
 use native.Mathlib.Omega.{arith}
 use lib.Dec.{eqb}
@@ -13,7 +13,7 @@ use lib.Seq.{drop-at}
 use Rattle.numbers.specs.Bytes.{pick, part, laid}
 use Rattle.numbers.specs.Numbers.{bytesBe}
 use Rattle.numbers.proofs.Laws.{length-be}
-use Rattle.numbers.proofs.Choices.{either}
+use Rattle.numbers.proofs.Choices.{either, split}
 use Rattle.frame.specs.declared.Header.{Header}
 use Rattle.frame.specs.declared.ServiceType.{ServiceType}
 use Rattle.frame.specs.declared.Reading.the-variants.{Frame}
@@ -37,6 +37,20 @@ pub reply-infos : (infoFits 0 0x02 ≡ true) × (infoFits 0 0x03 ≡ true) × (i
 unfolding infoFits
 reply-infos = (refl, refl, refl, refl, refl)
 
+-- a frame's payload, wherever bytes follow it
+pub part-back : (h : Header) (payload behind : List ℕ) → faultOf h ≡ 0 → h .size ≡ length payload → h .message .0 < 2 ^ 32 → (h .version ≡ 1 → h .message .0 ≡ 0)
+    → part (frameBytes h payload ++ behind) (extentOf h .start) (extentOf h .end - extentOf h .start) ≡ payload
+part-back h payload behind sound size low one =
+    let bytes : List ℕ = frameBytes h payload in
+    let l : laid bytes (bytes ++ behind) ≡ bytes ++ behind = ap (λ (x : List ℕ). bytes ++ x) (drop-at bytes behind (length bytes) refl) in
+    ap (λ (x : List ℕ). part x (extentOf h .start) (extentOf h .end - extentOf h .start)) (sym l) ∙ laid-arrives h payload (bytes ++ behind) sound size low one .payload
+
+-- bytes that are read back, whatever follows them, as this header and payload, and all consumed
+pub record Back (bytes : List ℕ) (h : Header) (payload : List ℕ) : Type 0 where
+  pub read : (behind : List ℕ) → readOf (bytes ++ behind) ≡ Frame h (extentOf h)
+  pub consumed : extentOf h .consumed ≡ length bytes
+  pub part-is : (behind : List ℕ) → part (bytes ++ behind) (extentOf h .start) (extentOf h .end - extentOf h .start) ≡ payload
+
 module _ (v : ℕ) (service : ServiceType) (info session : ℕ) (payload : List ℕ)
     (least : 1 ≤ v) (most : v ≤ 5) (listed : listedService service ≡ true) (fits : infoFits 0 info ≡ true) (short : length payload ≤ 1488) where
   -- a version 1 header has no message id: it reads as 0
@@ -57,47 +71,20 @@ module _ (v : ℕ) (service : ServiceType) (info session : ℕ) (payload : List 
 
   reply-same : (message : ℕ) → replyBytes v service info session message payload ≡ frameBytes (meant message) payload
   unfolding messageBytes
-  reply-same message = byVersion (eqb v 1) refl
-    where
-      byVersion : (b : Bool) → eqb v 1 ≡ b → replyBytes v service info session message payload ≡ frameBytes (replyHeader v service info session (length payload) (pick b 0 message)) payload
-      byVersion true e = rw e
-      byVersion false e = refl
+  reply-same message = split (eqb v 1) (λ e. rw e) (λ e. rw e)
 
-  pub reply-reads : (message : ℕ) (behind : List ℕ) → message < 2 ^ 32
-      → readOf (replyBytes v service info session message payload ++ behind) ≡ Frame (meant message) (extentOf (meant message))
-  reply-reads message behind small =
-      let m : ℕ = pick (eqb v 1) 0 message in
-      let low : m < 2 ^ 32 = either (λ (n : ℕ). n < 2 ^ 32) (eqb v 1) 0 message (λ e. omega arith) (λ e. small) in
-      let one : v ≡ 1 → m ≡ 0 = λ e. ap (λ (b : Bool). pick b 0 message) (eq-eqb v 1 e) in
-      ap (λ (s : List ℕ). readOf (s ++ behind)) (reply-same message) ∙ read-back (meant message) payload behind (reply-sound m) refl low one
-
-  pub reply-consumed : (message : ℕ) → extentOf (meant message) .consumed ≡ length (replyBytes v service info session message payload)
-  reply-consumed message = sym (frame-length (meant message) payload) ∙ sym (ap length (reply-same message))
-
--- bytes that are read back, whatever follows them, as this header and payload, and all consumed
-pub record Back (bytes : List ℕ) (h : Header) (payload : List ℕ) : Type 0 where
-  pub read : (behind : List ℕ) → readOf (bytes ++ behind) ≡ Frame h (extentOf h)
-  pub consumed : extentOf h .consumed ≡ length bytes
-  pub part-is : (behind : List ℕ) → part (bytes ++ behind) (extentOf h .start) (extentOf h .end - extentOf h .start) ≡ payload
-
-module _ (v : ℕ) (service : ServiceType) (info session : ℕ) (payload : List ℕ)
-    (least : 1 ≤ v) (most : v ≤ 5) (listed : listedService service ≡ true) (fits : infoFits 0 info ≡ true) (short : length payload ≤ 1488) where
   -- any reply of a session: its version, a listed service, one of the five infos, the counter's number
-  pub reply-back : (message : ℕ) → message < 2 ^ 32 → Back (replyBytes v service info session message payload) (meant v service info session payload least most listed fits short message) payload
+  pub reply-back : (message : ℕ) → message < 2 ^ 32 → Back (replyBytes v service info session message payload) (meant message) payload
   reply-back message small =
-      let h : Header = meant v service info session payload least most listed fits short message in
+      let h : Header = meant message in
       let low : h .message .0 < 2 ^ 32 = either (λ (n : ℕ). n < 2 ^ 32) (eqb v 1) 0 message (λ e. omega arith) (λ e. small) in
-      let one : h .version ≡ 1 → h .message .0 ≡ 0 = λ e. ap (λ (b : Bool). pick b 0 message) (eq-eqb v 1 e) in
-      let same : replyBytes v service info session message payload ≡ frameBytes h payload = reply-same v service info session payload least most listed fits short message in
+      let one : v ≡ 1 → h .message .0 ≡ 0 = λ e. ap (λ (b : Bool). pick b 0 message) (eq-eqb v 1 e) in
       record {
-        read = λ behind. reply-reads v service info session payload least most listed fits short message behind small;
-        consumed = reply-consumed v service info session payload least most listed fits short message;
+        read = λ behind. ap (λ (s : List ℕ). readOf (s ++ behind)) (reply-same message) ∙ read-back h payload behind (reply-sound (h .message .0)) refl low one;
+        consumed = sym (frame-length h payload) ∙ sym (ap length (reply-same message));
         part-is = λ behind.
-            let bytes : List ℕ = frameBytes h payload in
-            let l : laid bytes (bytes ++ behind) ≡ bytes ++ behind = ap (λ (x : List ℕ). bytes ++ x) (drop-at bytes behind (length bytes) refl) in
-            ap (λ (x : List ℕ). part (x ++ behind) (extentOf h .start) (extentOf h .end - extentOf h .start)) same
-            ∙ ap (λ (x : List ℕ). part x (extentOf h .start) (extentOf h .end - extentOf h .start)) (sym l)
-            ∙ laid-arrives h payload (bytes ++ behind) (reply-sound v service info session payload least most listed fits short (h .message .0)) refl low one .payload;
+            ap (λ (x : List ℕ). part (x ++ behind) (extentOf h .start) (extentOf h .end - extentOf h .start)) (reply-same message)
+            ∙ part-back h payload behind (reply-sound (h .message .0)) refl low one;
       }
 
 pub rpc-listed : listedService rpc ≡ true
@@ -106,58 +93,34 @@ rpc-listed = refl
 
 -- the opening's ACK below version 5: "the hash as 4 raw bytes, most significant first"
 pub old-ack-back : (major session hash : ℕ) (least : 1 ≤ major) → (h : Header) × (Back (oldAck major session hash) h (bytesBe 4 hash) × (h .version ≡ min major 4) × (h .session .0 ≡ session))
-old-ack-back major session hash least = (
-  _,
-  (
-    reply-back (min major 4) rpc startAck session (bytesBe 4 hash) (omega arith) (omega arith) rpc-listed (reply-infos .0) (omega (arith, length-be 4 hash)) 1 (omega arith),
-    refl,
-    refl,
-  ),
-)
+old-ack-back major session hash least =
+    let back = reply-back (min major 4) rpc startAck session (bytesBe 4 hash) (omega arith) (omega arith) rpc-listed (reply-infos .0) (omega (arith, length-be 4 hash)) 1 (omega arith) in
+    (_, (back, refl, refl))
 
 -- and in version 5, with its tags
 pub new-ack-back : (session hash mtu : ℕ) (v : Version) → hash < 2 ^ 32 → mtu < 2 ^ 64 → v .major < 256 → v .minor < 256 → v .patch < 256
     → (h : Header) × (Back (newAck session hash mtu v) h (ackPayload hash mtu v) × (h .version ≡ 5) × (h .session .0 ≡ session) × (payloadOf (ackPayload hash mtu v) ≡ Accepted (ackTags hash mtu v)))
-new-ack-back session hash mtu v a b c d e = (
-  _,
-  (
-    reply-back 5 rpc startAck session (ackPayload hash mtu v) (omega arith) (omega arith) rpc-listed (reply-infos .0) (omega (arith, ack-most hash mtu v c d e)) 1 (omega arith),
-    refl,
-    refl,
-    ack-read hash mtu v a b c d e,
-  ),
-)
+new-ack-back session hash mtu v a b c d e =
+    let back = reply-back 5 rpc startAck session (ackPayload hash mtu v) (omega arith) (omega arith) rpc-listed (reply-infos .0) (omega (arith, ack-most hash mtu v c d e)) 1 (omega arith) in
+    (_, (back, refl, refl, ack-read hash mtu v a b c d e))
 
 -- a service's ACK in version 5, with its tags
 pub service-ack-back : (service : ServiceType) (session hash mtu message : ℕ) → listedService service ≡ true → hash < 2 ^ 32 → mtu < 2 ^ 64 → message < 2 ^ 32
     → (h : Header) × (Back (replyBytes 5 service startAck session message (serviceAckPayload hash mtu)) h (serviceAckPayload hash mtu)
     × (payloadOf (serviceAckPayload hash mtu) ≡ Accepted (grantTags hash mtu)))
-service-ack-back service session hash mtu message l a b small = (
-  _,
-  (
-    reply-back 5 service startAck session (serviceAckPayload hash mtu) (omega arith) (omega arith) l (reply-infos .0) (omega (arith, length-service-ack hash mtu)) message small,
-    service-ack-read hash mtu a b,
-  ),
-)
+service-ack-back service session hash mtu message l a b small =
+    let back = reply-back 5 service startAck session (serviceAckPayload hash mtu) (omega arith) (omega arith) l (reply-infos .0) (omega (arith, length-service-ack hash mtu)) message small in
+    (_, (back, service-ack-read hash mtu a b))
 
 -- NAKs that name a parameter: of an opening, and of an End in version 5
 pub opening-nak-back : (major : ℕ) → 1 ≤ major
     → (h : Header) × (Back (openingNak major (nakPayload protocolVersion)) h (nakPayload protocolVersion) × (h .session .0 ≡ 0) × (payloadOf (nakPayload protocolVersion) ≡ Accepted nakTags))
-opening-nak-back major least = (
-  _,
-  (
-    reply-back (min major 4) rpc startNak 0 (nakPayload protocolVersion) (omega arith) (omega arith) rpc-listed (reply-infos .1) (omega (arith, length-nak protocolVersion)) 0 (omega arith),
-    refl,
-    nak-read parameter.ProtocolVersion,
-  ),
-)
+opening-nak-back major least =
+    let back = reply-back (min major 4) rpc startNak 0 (nakPayload protocolVersion) (omega arith) (omega arith) rpc-listed (reply-infos .1) (omega (arith, length-nak protocolVersion)) 0 (omega arith) in
+    (_, (back, refl, nak-read parameter.ProtocolVersion))
 
 pub end-nak-back : (service : ServiceType) (session : ℕ) → listedService service ≡ true
     → (h : Header) × (Back (replyBytes 5 service endNak session 0 (nakPayload hashId)) h (nakPayload hashId) × (payloadOf (nakPayload hashId) ≡ Accepted nakTags))
-end-nak-back service session l = (
-  _,
-  (
-    reply-back 5 service endNak session (nakPayload hashId) (omega arith) (omega arith) l (reply-infos .3) (omega (arith, length-nak hashId)) 0 (omega arith),
-    nak-read parameter.HashId,
-  ),
-)
+end-nak-back service session l =
+    let back = reply-back 5 service endNak session (nakPayload hashId) (omega arith) (omega arith) l (reply-infos .3) (omega (arith, length-nak hashId)) 0 (omega arith) in
+    (_, (back, nak-read parameter.HashId))

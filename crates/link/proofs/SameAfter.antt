@@ -1,16 +1,18 @@
 -- A call that names a session leads states that agree on it to states that agree on it, unless it closes the session or goes above its
 -- guarantee: the page by the book, which sees one answer, the row by the one decision.
 -- Assumes nothing.
-use Prim.Native.Nat.{ℕ, _-_, _<_}
+use Prim.Native.Nat.{ℕ, _-_}
 use mathlib.Core.Path.{_≡_, refl, ap, _∙_, sym, subst}
-use mathlib.Core.Bool.{Bool, true, false, _&&_, not}
+use mathlib.Core.Logic.{⊎-elim}
+use mathlib.Core.Bool.{Bool, true, false, true≢false, _&&_, not}
 use mathlib.Core.Option.{Option, none, some}
 use mathlib.Core.List.{List}
 use native.Mathlib.Omega.{arith}
-use lib.Dec.{T, eqb, leb}
-use lib.ListN.{length, getD}
+use lib.Ieee.Bits.{is-true, is-false}
+use lib.Dec.{T, eqb}
+use lib.ListN.{getD}
 use borrow.Author.Tests.{eqb-true}
-use Rattle.numbers.specs.Bytes.{pick, part}
+use Rattle.numbers.specs.Bytes.{pick}
 use Rattle.numbers.proofs.Choices.{either, onTest}
 use Rattle.frame.specs.declared.Header.{Header}
 use Rattle.frame.specs.declared.Extent.{Extent}
@@ -19,44 +21,38 @@ use Rattle.frame.specs.declared.Reading.the-variants as reading
 use Rattle.frame.specs.Read.{readOf}
 use Rattle.session.specs.declared.Row.{Row}
 use Rattle.session.specs.declared.Act.{Act}
-use Rattle.session.specs.declared.Act.the-variants.{Refuse, Drop, Accept, Beat, Start, NoStart, Stop, Close, NoEnd, Claim, Append, Deliver, Single}
 use Rattle.session.specs.Rows.{noRow}
 use Rattle.session.specs.Decide.{rowAfter}
+use Rattle.link.specs.declared.Link.{Link}
 use Rattle.link.specs.declared.Grant.{Grant}
 use Rattle.link.specs.declared.Answer.{Answer}
-use Rattle.link.specs.State.{indexOf, grantFits}
-use Rattle.link.specs.Call.{After, opens, decisionOf, applied, frameOf, readingOf, callOf}
-use Rattle.link.specs.Book.{Request, Command, call, Event, Ask, single, first, next, end, other, Seen, opening, within, nothing, askOf, seenIn, seenOf, isAck, Page, Book, there, pageAfter, pageAfterIf, noted, bookAfter, names, endsRpc, closes, shuts, ModestOn, ModestIn}
+use Rattle.link.specs.State.{indexOf}
+use Rattle.link.specs.Call.{After, opens}
+use Rattle.link.specs.Book.{Request, Command, call, Event, Ask, single, first, next, end, other, Seen, opening, within, nothing, askOf, seenIn, seenOf, isAck, Page, Book, there, pageAfterIf, noted, bookAfter, names, endsRpc, closes, shuts, ModestOn, ModestIn}
 use Rattle.link.specs.Claim.{State, stateAfter, eventOf, isOpen}
 use Rattle.link.specs.Pages.{rowOf, pages, Sane}
-use Rattle.link.proofs.Shown.{shown}
-use Rattle.link.proofs.Table.{index-row}
+use Rattle.link.proofs.Shown.{shown, row-open, row-is}
 use Rattle.link.proofs.Holdings.{open-index}
-use Rattle.link.proofs.Others.{row-open, with-id, settled-id, service-id}
-use Rattle.link.proofs.PageAfter.{never, stored-row, gone-page}
+use Rattle.link.proofs.Others.{after-id, moves}
+use Rattle.link.proofs.PageAfter.{stored-row, gone-page}
 use Rattle.link.proofs.BookAfter.{told}
 use Rattle.link.proofs.Settings.{settings}
-use Rattle.link.proofs.Answers.{row-is, two-unless, three-by, guard-is, open-test, opens-zero, decided-alike, named, same-answer}
+use Rattle.link.proofs.Answers.{decided-alike, same-answer}
+use Rattle.link.proofs.Calls.{opens-zero, named, payloadIn, rowAct, rowCall, two-calls}
 use Rattle.link.proofs.Lists.{Alike}
 
 -- ---- the book at one session
 
 -- a page stays unless an End's ACK closes the session
-stays-there : (p : Page) (ask : Ask) (a : Answer) (i : ℕ) → isAck a && endsRpc (within i ask) ≡ false → there (pageAfter p ask a) ≡ true
-stays-there p (single x) a i e = refl
-stays-there p (first place id total count) a i e = refl
-stays-there p (next place id x) a i e = refl
-stays-there p (end place) a i e = go (isAck a) (eqb place 1) _ p e
-  where
-    go : (b c : Bool) (x y : Page) → b && c ≡ false → there (pick b (pick c none (some x)) (some y)) ≡ true
-    go true true x y f = absurd (never f)
-    go true false x y f = refl
-    go false c x y f = refl
-stays-there p other a i e = refl
-
-if-there : (o : Option Page) (ask : Ask) (a : Answer) (i : ℕ) → there o ≡ true → isAck a && endsRpc (within i ask) ≡ false → there (pageAfterIf o ask a) ≡ true
-if-there none ask a i t e = absurd (never (sym t))
-if-there (some p) ask a i t e = stays-there p ask a i e
+stays-there : (o : Option Page) (ask : Ask) (a : Answer) (i : ℕ) → there o ≡ true → isAck a && endsRpc (within i ask) ≡ false → there (pageAfterIf o ask a) ≡ true
+stays-there none ask a i t e = absurd (true≢false (sym t))
+stays-there (some p) (single x) a i t e = refl
+stays-there (some p) (first place id total count) a i t e = refl
+stays-there (some p) (next place id x) a i t e = refl
+stays-there (some p) (end place) a i t e =
+    let P : Option Page → Type 0 = λ y. there y ≡ true in
+    either P (isAck a) _ _ (λ u. either P (eqb place 1) _ _ (λ v. absurd (true≢false (rw (u, v) at e))) (λ _. refl)) (λ _. refl)
+stays-there (some p) other a i t e = refl
 
 -- the session stays in the book
 book-there : (b : Book) (g : Grant) (a : Answer) (x : Seen) (i : ℕ) → there (b i) ≡ true → isAck a && endsRpc x ≡ false → there (noted b g a x i) ≡ true
@@ -64,7 +60,7 @@ book-there b g a opening i t e =
     either (λ (c : Book). there (c i) ≡ true) (isAck a) _ b (λ _. either (λ (o : Option Page). there o ≡ true) (eqb _ i) _ _ (λ _. refl) (λ _. t)) (λ _. t)
 book-there b g a (within j ask) i t e =
     either (λ (o : Option Page). there o ≡ true) (eqb j i) (pageAfterIf (b j) ask a) (b i)
-    (λ u. if-there (b j) ask a j (ap (λ (y : ℕ). there (b y)) (eqb-true j i u) ∙ t) e) (λ _. t)
+    (λ u. stays-there (b j) ask a j (ap (λ (y : ℕ). there (b y)) (eqb-true j i u) ∙ t) e) (λ _. t)
 book-there b g a nothing i t e = t
 
 -- books that agree at a session agree there after a frame of any session
@@ -77,35 +73,31 @@ book-same b c g a nothing i n e = e
 
 -- ---- the row after a decision
 
-module _ (s : State) (i n : ℕ) (k : Sane s) (at : indexOf i (s .link .rows) ≡ n) (below : n < length (s .link .rows)) (some-id : i ≡ 0 → ⊥)
-    (mine : getD (s .link .rows) n noRow .id .0 ≡ i) (same : rowOf s i ≡ some (getD (s .link .rows) n noRow)) (q : Request) (h : Header) (consumed : ℕ) (payload : List ℕ) where
-  abbrev r : Row
-  r = getD (s .link .rows) n noRow
+abbrev left : After → State
+left w = record { link = w .link; pool = w .pool }
 
-  abbrev after : Act → State
-  after act = let w : After = applied (s .link) n (s .pool) (q .out) h consumed payload (q .grant) act in record { link = w .link; pool = w .pool }
-
-  row-after : (act : Act) → there (pages (after act) i) ≡ true → rowOf (after act) i ≡ some (rowAfter r h (q .grant .hash) act)
-  row-after (Refuse c) t = same
-  row-after (Drop c) t = stored-row s i n k at below some-id mine _ _ _ (with-id r _ _)
-  row-after Accept t = same
-  row-after Beat t = same
-  row-after Start t = stored-row s i n k at below some-id mine _ _ _ (service-id r (h .service) _)
-  row-after NoStart t = same
-  row-after Stop t = stored-row s i n k at below some-id mine _ _ _ (service-id _ (h .service) _ ∙ with-id r _ _)
-  row-after Close t = absurd (never (sym (sym (ap there (gone-page s i n k at below some-id mine _ _)) ∙ t)))
-  row-after (NoEnd b) t = same
-  row-after (Claim total count) t = stored-row s i n k at below some-id mine _ _ _ (settled-id _ (h .version) ∙ with-id r _ _)
-  row-after Append t = stored-row s i n k at below some-id mine _ _ _ (with-id r _ _)
-  row-after Deliver t = stored-row s i n k at below some-id mine _ _ _ (with-id r _ _)
-  row-after Single t = stored-row s i n k at below some-id mine _ _ _ (settled-id r (h .version))
+-- a session that is still open has the row that the decision makes
+row-after : (s : State) (q : Request) (h : Header) (e : Extent) (r : Row) → Sane s → rowOf s (h .session .0) ≡ some r → there (pages (left (rowCall s q h e)) (h .session .0)) ≡ true
+    → rowOf (left (rowCall s q h e)) (h .session .0) ≡ some (rowAfter r h (q .grant .hash) (rowAct s q h e))
+row-after s q h e r k found t =
+    let i : ℕ = h .session .0 in
+    let n : ℕ = indexOf i (s .link .rows) in
+    let act : Act = rowAct s q h e in
+    let old : Row = getD (s .link .rows) n noRow in
+    let o : isOpen s i ≡ true = row-open s i r found in
+    let v = moves (s .link) n (s .pool) (q .out) h (e .consumed) (payloadIn q e) (q .grant) act in
+    let pool : List ℕ = rowCall s q h e .pool in
+    let x : Row = rowAfter old h (q .grant .hash) act in
+    ⊎-elim
+    (λ a. ap (λ (l : Link). rowOf (record { link = l; pool = pool }) i) (v .link) ∙ stored-row s i k o x (v .owners) pool a)
+    (λ z. absurd (true≢false (sym t ∙ ap (λ (l : Link). there (pages (record { link = l; pool = pool }) i)) (v .link)
+    ∙ ap there (gone-page s i k o x (v .owners) pool z))))
+    (after-id old h (q .grant .hash) act)
+    ∙ ap (λ (y : Row). some (rowAfter y h (q .grant .hash) act)) (row-is s i r found)
 
 -- ---- two states
 
 module _ (s₁ s₂ : State) (q : Request) (k₁ : Sane s₁) (k₂ : Sane s₂) where
-  abbrev left : After → State
-  left w = record { link = w .link; pool = w .pool }
-
   -- one row in both, where the session is still open
   abbrev OneRow : ℕ → Seen → After → After → Type 0
   OneRow i seen w₁ w₂ =
@@ -113,95 +105,31 @@ module _ (s₁ s₂ : State) (q : Request) (k₁ : Sane s₁) (k₂ : Sane s₂)
       → (x : Row) × ((rowOf (left w₁) i ≡ some x) × (rowOf (left w₂) i ≡ some x))
 
   row-one : (h : Header) (e : Extent) → Alike (h .session .0) s₁ s₂
-      → (let i : ℕ = h .session .0 in
-      let payload : List ℕ = part (q .input) (e .start) (e .end - e .start) in
-      let n₁ : ℕ = indexOf i (s₁ .link .rows) in
-      let n₂ : ℕ = indexOf i (s₂ .link .rows) in
-      OneRow i (within i (askOf h payload))
-      (applied (s₁ .link) n₁ (s₁ .pool) (q .out) h (e .consumed) payload (q .grant) (decisionOf (s₁ .link) n₁ h payload (length (q .out))))
-      (applied (s₂ .link) n₂ (s₂ .pool) (q .out) h (e .consumed) payload (q .grant) (decisionOf (s₂ .link) n₂ h payload (length (q .out)))))
+      → OneRow (h .session .0) (within (h .session .0) (askOf h (payloadIn q e))) (rowCall s₁ q h e) (rowCall s₂ q h e)
   row-one h e a m t₁ t₂ =
-      let i : ℕ = h .session .0 in
-      let r : Row = a .the-row in
-      let payload : List ℕ = part (q .input) (e .start) (e .end - e .start) in
-      let n₁ : ℕ = indexOf i (s₁ .link .rows) in
-      let n₂ : ℕ = indexOf i (s₂ .link .rows) in
-      let at₁ = open-index s₁ i (row-open s₁ i r (a .row₁)) in
-      let at₂ = open-index s₂ i (row-open s₂ i r (a .row₂)) in
-      let e₁ : getD (s₁ .link .rows) n₁ noRow ≡ r = row-is s₁ i r (a .row₁) in
-      let e₂ : getD (s₂ .link .rows) n₂ noRow ≡ r = row-is s₂ i r (a .row₂) in
-      let d₁ : Act = decisionOf (s₁ .link) n₁ h payload (length (q .out)) in
-      let d₂ : Act = decisionOf (s₂ .link) n₂ h payload (length (q .out)) in
-      let same : d₁ ≡ d₂ = decided-alike s₁ s₂ q k₁ k₂ h (e .consumed) payload a m in
-      let after : Row → Act → Option Row = λ x d. some (rowAfter x h (q .grant .hash) d) in (
-        rowAfter r h (q .grant .hash) d₂,
+      let r : Row = a .the-row in (
+        _,
         (
-          row-after s₁ i n₁ k₁ refl (at₁ .1) (at₁ .0) (index-row i (s₁ .link .rows) (at₁ .1)) (a .row₁ ∙ ap some (sym e₁)) q h (e .consumed) payload d₁ t₁
-              ∙ ap (λ (x : Row). after x d₁) e₁ ∙ ap (after r) same,
-          row-after s₂ i n₂ k₂ refl (at₂ .1) (at₂ .0) (index-row i (s₂ .link .rows) (at₂ .1)) (a .row₂ ∙ ap some (sym e₂)) q h (e .consumed) payload d₂ t₂
-              ∙ ap (λ (x : Row). after x d₂) e₂,
+          row-after s₁ q h e r k₁ (a .row₁) t₁ ∙ ap (λ (d : Act). some (rowAfter r h (q .grant .hash) d)) (decided-alike s₁ s₂ q k₁ k₂ h e a m),
+          row-after s₂ q h e r k₂ (a .row₂) t₂,
         ),
       )
-
-  frame-one : (h : Header) (e : Extent) → Alike (h .session .0) s₁ s₂
-      → OneRow (h .session .0) (seenIn (q .input) (reading.Frame h e))
-      (frameOf (s₁ .link) (s₁ .pool) (q .input) (q .out) h e (q .grant)) (frameOf (s₂ .link) (s₂ .pool) (q .input) (q .out) h e (q .grant))
-  unfolding frameOf
-  frame-one h e a =
-      let i : ℕ = h .session .0 in
-      let payload : List ℕ = part (q .input) (e .start) (e .end - e .start) in
-      let seen : Seen = within i (askOf h payload) in
-      let o₁ : isOpen s₁ i ≡ true = row-open s₁ i (a .the-row) (a .row₁) in
-      let o₂ : isOpen s₂ i ≡ true = row-open s₂ i (a .the-row) (a .row₂) in
-      two-unless (OneRow i (pick (opens h) opening seen)) (leb 128 (length (q .out))) _ _ _ _ (λ _ _ _ _. (a .the-row, (a .row₁, a .row₂))) λ _.
-      three-by (OneRow i) (opens h) opening seen _ _ _ _ (λ z. absurd (open-index s₁ i o₁ .0 (opens-zero h z))) λ _.
-      rw (open-test s₁ i o₁, open-test s₂ i o₂) (row-one h e a)
-
-  reading-one : (i : ℕ) → T (names i (call q)) → Alike i s₁ s₂ → (x : Reading) → readOf (q .input) ≡ x
-      → OneRow i (seenIn (q .input) x) (readingOf (s₁ .link) (s₁ .pool) (q .input) (q .out) (q .grant) x) (readingOf (s₂ .link) (s₂ .pool) (q .input) (q .out) (q .grant) x)
-  reading-one i t a (reading.Short n) f = λ _ _ _. (a .the-row, (a .row₁, a .row₂))
-  reading-one i t a (reading.Refused n) f = λ _ _ _. (a .the-row, (a .row₁, a .row₂))
-  reading-one i t a (reading.Frame h e) f =
-      let z : i ≡ h .session .0 = named s₁ s₂ q k₁ k₂ i h e f t in
-      subst (λ (j : ℕ). OneRow j (seenIn (q .input) (reading.Frame h e))
-      (frameOf (s₁ .link) (s₁ .pool) (q .input) (q .out) h e (q .grant)) (frameOf (s₂ .link) (s₂ .pool) (q .input) (q .out) h e (q .grant)))
-      (sym z) (frame-one h e (subst (λ (j : ℕ). Alike j s₁ s₂) z a))
-
-  call-one : (i : ℕ) → T (names i (call q)) → Alike i s₁ s₂
-      → OneRow i (seenOf (q .input)) (callOf (s₁ .link) (s₁ .pool) (q .input) (q .out) (q .grant)) (callOf (s₂ .link) (s₂ .pool) (q .input) (q .out) (q .grant))
-  unfolding callOf seenOf
-  call-one i t a =
-      rw (guard-is s₁ (q .grant) k₁, guard-is s₂ (q .grant) k₂)
-      (two-unless (OneRow i (seenIn (q .input) (readOf (q .input)))) (grantFits (q .grant)) _ _ _ _ (λ _ _ _ _. (a .the-row, (a .row₁, a .row₂))) (λ _. reading-one i t a (readOf (q .input)) refl))
 
   -- a call that names an open session is no opening
   no-opening : (i : ℕ) → T (names i (call q)) → (i ≡ 0 → ⊥) → seenOf (q .input) ≡ opening → ⊥
   unfolding seenOf
   no-opening i t z = byReading (readOf (q .input)) refl
     where
-      is-opening : (b : Bool) (y : Seen) → (y ≡ opening → ⊥) → pick b opening y ≡ opening → b ≡ true
-      is-opening true y n e = refl
-      is-opening false y n e = absurd (n e)
-
-      not-within : (j : ℕ) (a : Ask) → within j a ≡ opening → ⊥
-      not-within j a e = let w : _≡_ {A = ℕ} 0 1 = cc in omega arith
-
       byReading : (x : Reading) → readOf (q .input) ≡ x → seenIn (q .input) x ≡ opening → ⊥
       byReading (reading.Short n) f e = let w : _≡_ {A = ℕ} 0 1 = cc in omega arith
       byReading (reading.Refused n) f e = let w : _≡_ {A = ℕ} 0 1 = cc in omega arith
       byReading (reading.Frame h x) f e =
-          z (named s₁ s₂ q k₁ k₂ i h x f t ∙ opens-zero h (is-opening (opens h) (within (h .session .0) (askOf h (part (q .input) (x .start) (x .end - x .start)))) (not-within _ _) e))
+          either (λ (y : Seen). y ≡ opening → ⊥) (opens h) _ _ (λ o _. z (named q i h x f t ∙ opens-zero h o)) (λ _ y. let w : _≡_ {A = ℕ} 0 1 = cc in omega arith) e
 
   -- no closing, in the words of the book
   not-closing : (i : ℕ) (e : Event) → T (names i (e .command)) → e .command ≡ call q → T (not (shuts i e)) → isAck (e .answer) && endsRpc (seenOf (q .input)) ≡ false
   unfolding shuts
-  not-closing i e t c n =
-      second (names i (e .command)) (closes (e .command) (e .answer)) (isAck (e .answer) && endsRpc (seenOf (q .input))) t (ap (λ (d : Command). closes d (e .answer)) c) n
-    where
-      second : (a b d : Bool) → T a → b ≡ d → T (not (a && b)) → d ≡ false
-      second true true d u f v = absurd v
-      second true false d u f v = sym f
-      second false b d u f v = absurd u
+  not-closing i e t c n = ap (λ (d : Command). closes d (e .answer)) (sym c) ∙ is-false (closes (e .command) (e .answer)) (rw (is-true (names i (e .command)) t) at n)
 
 -- the law
 pub same-after : (s₁ s₂ : State) (c : Command) (i : ℕ) → Sane s₁ → Sane s₂ → Alike i s₁ s₂ → T (names i c)
@@ -219,7 +147,7 @@ same-after s₁ s₂ (call q) i k₁ k₂ a t m n =
     = ap (λ (b : Book). there (b i)) (sym b₁) ∙ book-there (pages s₁) (q .grant) (eventOf s₁ c .answer) x i (sym (shown s₁ i) ∙ o₁) (not-closing s₁ s₂ q k₁ k₂ i (eventOf s₁ c) t refl n) in
     let t₂ : there (pages (stateAfter s₂ c) i) ≡ true
     = ap (λ (b : Book). there (b i)) (sym b₂) ∙ book-there (pages s₂) (q .grant) (eventOf s₂ c .answer) x i (sym (shown s₂ i) ∙ o₂) (not-closing s₁ s₂ q k₁ k₂ i (eventOf s₂ c) t refl n₂) in
-    let one = call-one s₁ s₂ q k₁ k₂ i t a m t₁ t₂ in
+    let one = two-calls s₁ s₂ q k₁ k₂ (OneRow s₁ s₂ q k₁ k₂) (λ _ _ _ b _ _ _. (b .the-row, (b .row₁, b .row₂))) (λ h e _. row-one s₁ s₂ q k₁ k₂ h e) i t a m t₁ t₂ in
     record {
       the-row = one .0;
       row₁ = one .1 .0;

@@ -1,14 +1,15 @@
--- What a state within the rules shows: its sessions are the pages' sessions, and held and free blocks make 256. By the rules, taken apart.
+-- What a state shows: the rules, one by one, its open sessions, their rows and their pages. By the definitions, taken apart.
 -- Assumes nothing.
 use Prim.Native.Nat.{ℕ, _+_, _≤_}
 use mathlib.Core.Path.{_≡_, refl}
-use mathlib.Core.Bool.{Bool, true, false}
+use mathlib.Core.Bool.{Bool, true, false, _&&_, and-false, not}
 use mathlib.Core.Option.{none, some}
-use lib.Dec.{eqb, leb}
-use lib.ListN.{getD}
-use borrow.Author.Tests.{eqb-true, leb-true}
+use native.Mathlib.Omega.{arith}
+use lib.Dec.{eqb, leb, ltb}
+use lib.ListN.{length, getD}
+use borrow.Author.Tests.{eqb-true, leb-true, eq-eqb, le-leb, le-ltb}
 use Rattle.numbers.specs.Bytes.{pick}
-use Rattle.numbers.proofs.Choices.{and-both}
+use Rattle.numbers.proofs.Choices.{and-both, onTest}
 use Rattle.blocks.specs.Map.{heldByAll, freeIn}
 use Rattle.session.specs.declared.Row.{Row}
 use Rattle.session.specs.Rows.{noRow}
@@ -16,7 +17,7 @@ use Rattle.link.specs.declared.Link.{Link}
 use Rattle.link.specs.State.{indexOf, distinctIds, allFrom, rowFits, sharesIn, rulesHold}
 use Rattle.link.specs.Book.{there}
 use Rattle.link.specs.Claim.{State, isOpen}
-use Rattle.link.specs.Pages.{rowOf, pageIf, pages, Sane}
+use Rattle.link.specs.Pages.{rowOf, pageOf, pageIf, pages, Sane}
 
 -- the state rules, one by one
 pub record Rules (l : Link) : Type 0 where
@@ -38,6 +39,10 @@ rules-say l e =
       blocks = eqb-true (heldByAll 1 40 (l .owners) + freeIn (l .owners)) 256 (r .1);
     }
 
+pub say-rules : (l : Link) → Rules l → rulesHold l ≡ true
+unfolding rulesHold
+say-rules l g = rw (g .ids, g .rows, le-leb (sharesIn (l .rows)) 256 (g .shares), eq-eqb (heldByAll 1 40 (l .owners) + freeIn (l .owners)) 256 (g .blocks))
+
 -- "held and free blocks make 256"
 pub all-blocks : (s : State) → Sane s → heldByAll 1 40 (s .link .owners) + freeIn (s .link .owners) ≡ 256
 all-blocks s k = rules-say (s .link) (k .rules) .blocks
@@ -45,8 +50,47 @@ all-blocks s k = rules-say (s .link) (k .rules) .blocks
 -- the open sessions are those that have a page
 pub shown : (s : State) (i : ℕ) → isOpen s i ≡ there (pages s i)
 unfolding pages rowOf
-shown s i = byOpen (isOpen s i) (getD (s .link .rows) (indexOf i (s .link .rows)) noRow) (indexOf i (s .link .rows))
-  where
-    byOpen : (b : Bool) (r : Row) (n : ℕ) → b ≡ there (pageIf s n (pick b (some r) none))
-    byOpen true r n = refl
-    byOpen false r n = refl
+shown s i =
+    let n : ℕ = indexOf i (s .link .rows) in
+    onTest (λ (b : Bool). b ≡ there (pageIf s n (pick b (some (getD (s .link .rows) n noRow)) none))) (isOpen s i) (λ _. refl) (λ _. refl)
+
+-- ---- an open session
+
+-- the test of a call
+pub is-open : (s : State) (i : ℕ) → not (eqb i 0) && ltb (indexOf i (s .link .rows)) (length (s .link .rows)) ≡ true → isOpen s i ≡ true
+unfolding isOpen
+is-open s i e = e
+
+picked : {A : Type 0} (b : Bool) (x y : A) → pick b (some x) none ≡ some y → (b ≡ true) × (x ≡ y)
+picked true x y e = (refl, cc)
+picked false x y e = let z : _≡_ {A = ℕ} 0 1 = cc in absurd (omega arith)
+
+-- it has a row, the one that its id leads to
+pub row-open : (s : State) (i : ℕ) (r : Row) → rowOf s i ≡ some r → isOpen s i ≡ true
+unfolding rowOf
+row-open s i r e = picked (isOpen s i) _ r e .0
+
+pub open-row : (s : State) (i : ℕ) → isOpen s i ≡ true → rowOf s i ≡ some (getD (s .link .rows) (indexOf i (s .link .rows)) noRow)
+unfolding rowOf
+open-row s i e = rw e
+
+pub row-is : (s : State) (i : ℕ) (r : Row) → rowOf s i ≡ some r → getD (s .link .rows) (indexOf i (s .link .rows)) noRow ≡ r
+unfolding rowOf
+row-is s i r e = picked (isOpen s i) _ r e .1
+
+-- and a page, read off that row
+pub page-of : (s : State) (i : ℕ) → isOpen s i ≡ true → pages s i ≡ some (pageOf s (indexOf i (s .link .rows)) (getD (s .link .rows) (indexOf i (s .link .rows)) noRow))
+unfolding pages rowOf
+page-of s i e = rw e
+
+-- ---- a session that is not open
+
+-- it has no page
+pub closed-page : (t : State) (i : ℕ) → isOpen t i ≡ false → pages t i ≡ none
+unfolding pages rowOf
+closed-page t i e = rw e
+
+-- its id may be in no row
+pub missing-closed : (t : State) (i : ℕ) → indexOf i (t .link .rows) ≡ length (t .link .rows) → isOpen t i ≡ false
+unfolding isOpen
+missing-closed t i e = let n : ℕ = length (t .link .rows) in rw (e, le-ltb n n (omega arith), and-false)

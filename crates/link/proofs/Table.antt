@@ -1,16 +1,17 @@
 -- The table of rows: where an id stands, and what storing a row at an index does to ids, sums, tests and the lowest free id. For any rows.
 -- By induction along the list; the last by counting the ids that rows can take. Assumes nothing.
-use Prim.Native.Nat.{ℕ, zero, suc, _+_, _-_, _≤_, _<_, max}
+use Prim.Native.Nat.{ℕ, zero, suc, _+_, _-_, _≤_, _<_, max, min}
 use mathlib.Core.Path.{_≡_, refl, ap, sym, subst, _∙_}
 use mathlib.Core.Logic.{_≢_}
-use mathlib.Core.Bool.{Bool, true, false, _&&_, _||_}
+use mathlib.Core.Bool.{Bool, true, _||_}
 use mathlib.Core.List.{List, [], _∷_}
 use native.Mathlib.Omega.{arith}
 use lib.Dec.{eqb, ltb}
-use lib.ListN.{length, getD, set}
+use lib.ListN.{length, getD, set, length-set}
 use borrow.Author.Tests.{eqb-true, eqb-false, eq-eqb, ne-eqb, lt-ltb, le-ltb}
 use Rattle.numbers.specs.Bytes.{pick}
-use Rattle.numbers.proofs.Choices.{and-yes, same-or-not, onTest}
+use Rattle.numbers.proofs.Choices.{and-both, same-or-not, split}
+use Rattle.blocks.specs.Map.{Outside}
 use Rattle.session.specs.declared.Row.{Row}
 use Rattle.frame.specs.declared.SessionId.{SessionId}
 use Rattle.session.specs.Rows.{noRow, freeRow, openedRow}
@@ -18,18 +19,7 @@ use Rattle.session.specs.Decide.{heldBy, heldIn, heldOf, shareOf}
 use Rattle.link.specs.State.{indexOf, ownerOf, sharesIn, distinctIds, lowestFree}
 use Rattle.link.specs.Book.{Book, there, lowestIn}
 use Rattle.link.specs.Pages.{FiveEach}
-
--- ---- cases
-
--- the first of two tests that hold together
-pub and-left : (a b : Bool) → a && b ≡ true → a ≡ true
-and-left true b e = refl
-and-left false b e = e
-
--- the second of them
-pub and-right : (a b : Bool) → a && b ≡ true → b ≡ true
-and-right true b e = e
-and-right false b e = let z : _≡_ {A = ℕ} 0 1 = cc in absurd (omega arith)
+use Rattle.link.proofs.Each.{set-each, sum-set}
 
 -- ---- 1. where an id stands
 
@@ -69,7 +59,7 @@ index-row i (r ∷ rs) h =
     (λ n. ap (λ (k : ℕ). idAt (r ∷ rs) k) (index-later i r rs n) ∙ index-row i rs (omega (arith, index-later i r rs n)))
 
 -- it is the first that has it
-pub index-first : (i : ℕ) (rs : List Row) (j : ℕ) → j < length rs → idAt rs j ≡ i → indexOf i rs ≤ j
+index-first : (i : ℕ) (rs : List Row) (j : ℕ) → j < length rs → idAt rs j ≡ i → indexOf i rs ≤ j
 index-first i [] j h e = absurd (omega arith)
 index-first i (r ∷ rs) zero h e = omega (arith, index-here i r rs e)
 index-first i (r ∷ rs) (suc j) h e =
@@ -81,214 +71,158 @@ index-first i (r ∷ rs) (suc j) h e =
 pub index-missing : (i : ℕ) (rs : List Row) → indexOf i rs ≡ length rs → (j : ℕ) → j < length rs → idAt rs j ≢ i
 index-missing i rs e j h q = omega (arith, index-first i rs j h q)
 
--- nor has the first
-pub missing-head : (i : ℕ) (r : Row) (rs : List Row) → indexOf i (r ∷ rs) ≡ length (r ∷ rs) → r .id .0 ≢ i
-missing-head i r rs e q = omega (arith, index-here i r rs q)
-
--- nor the rest
-pub missing-tail : (i : ℕ) (r : Row) (rs : List Row) → indexOf i (r ∷ rs) ≡ length (r ∷ rs) → indexOf i rs ≡ length rs
-missing-tail i r rs e = omega (arith, index-later i r rs (missing-head i r rs e))
-
 -- and back
-pub missing-cons : (i : ℕ) (r : Row) (rs : List Row) → r .id .0 ≢ i → indexOf i rs ≡ length rs → indexOf i (r ∷ rs) ≡ length (r ∷ rs)
-missing-cons i r rs n e = index-later i r rs n ∙ ap suc e
+missing-index : (i : ℕ) (rs : List Row) → ((j : ℕ) → j < length rs → idAt rs j ≢ i) → indexOf i rs ≡ length rs
+missing-index i rs f =
+    same-or-not (indexOf i rs) (length rs) (λ e. e) λ d.
+    let below : indexOf i rs < length rs = omega (arith, index-below i rs) in
+    absurd (f (indexOf i rs) below (index-row i rs below))
 
 -- distinct ids: no later row has the first one's
-pub distinct-head : (r : Row) (rs : List Row) → distinctIds (r ∷ rs) ≡ true → r .id .0 ≢ 0 → indexOf (r .id .0) rs ≡ length rs
+distinct-head : (r : Row) (rs : List Row) → distinctIds (r ∷ rs) ≡ true → r .id .0 ≢ 0 → indexOf (r .id .0) rs ≡ length rs
 unfolding distinctIds
 distinct-head r rs e n =
-    let t : (eqb (r .id .0) 0 || eqb (indexOf (r .id .0) rs) (length rs)) ≡ true = and-left (eqb (r .id .0) 0 || eqb (indexOf (r .id .0) rs) (length rs)) (distinctIds rs) e in
-    let q : eqb (indexOf (r .id .0) rs) (length rs) ≡ true = ap (λ (b : Bool). b || eqb (indexOf (r .id .0) rs) (length rs)) (sym (ne-eqb (r .id .0) 0 n)) ∙ t in
-    eqb-true (indexOf (r .id .0) rs) (length rs) q
+    let t : eqb (r .id .0) 0 || eqb (indexOf (r .id .0) rs) (length rs) ≡ true = and-both _ (distinctIds rs) e .0 in
+    eqb-true (indexOf (r .id .0) rs) (length rs) (rw (ne-eqb (r .id .0) 0 n) at t)
 
 -- the rest has distinct ids
-pub distinct-tail : (r : Row) (rs : List Row) → distinctIds (r ∷ rs) ≡ true → distinctIds rs ≡ true
+distinct-tail : (r : Row) (rs : List Row) → distinctIds (r ∷ rs) ≡ true → distinctIds rs ≡ true
 unfolding distinctIds
-distinct-tail r rs e = and-right (eqb (r .id .0) 0 || eqb (indexOf (r .id .0) rs) (length rs)) (distinctIds rs) e
+distinct-tail r rs e = and-both (eqb (r .id .0) 0 || eqb (indexOf (r .id .0) rs) (length rs)) (distinctIds rs) e .1
 
 -- and back
-pub distinct-cons : (r : Row) (rs : List Row) → (r .id .0 ≢ 0 → indexOf (r .id .0) rs ≡ length rs) → distinctIds rs ≡ true → distinctIds (r ∷ rs) ≡ true
+distinct-cons : (r : Row) (rs : List Row) → (r .id .0 ≢ 0 → indexOf (r .id .0) rs ≡ length rs) → distinctIds rs ≡ true → distinctIds (r ∷ rs) ≡ true
 unfolding distinctIds
 distinct-cons r rs f e =
-    and-yes (eqb (r .id .0) 0 || eqb (indexOf (r .id .0) rs) (length rs)) (distinctIds rs)
-    (onTest (λ (t : Bool). t || eqb (indexOf (r .id .0) rs) (length rs) ≡ true) (eqb (r .id .0) 0)
-    (λ q. refl)
-    (λ q. eq-eqb (indexOf (r .id .0) rs) (length rs) (f (eqb-false (r .id .0) 0 q))))
-    e
+    split (eqb (r .id .0) 0) (λ q. rw (q, e)) (λ q. rw (q, eq-eqb (indexOf (r .id .0) rs) (length rs) (f (eqb-false (r .id .0) 0 q)), e))
 
 -- where ids are distinct, only one row has an id other than 0
-pub index-unique : (i : ℕ) (rs : List Row) (j : ℕ) → distinctIds rs ≡ true → j < length rs → idAt rs j ≡ i → i ≢ 0 → j ≡ indexOf i rs
-index-unique i [] j g h e z = absurd (omega arith)
-index-unique i (r ∷ rs) zero g h e z = sym (index-here i r rs e)
-index-unique i (r ∷ rs) (suc j) g h e z =
-    same-or-not (r .id .0) i
-    (λ q. let m : indexOf i rs ≡ length rs = subst (λ (k : ℕ). indexOf k rs ≡ length rs) q (distinct-head r rs g (λ w. z (sym q ∙ w))) in
-    absurd (index-missing i rs m j (omega arith) e))
-    (λ n. ap suc (index-unique i rs j (distinct-tail r rs g) (omega arith) e z) ∙ sym (index-later i r rs n))
+pub distinct-one : (rs : List Row) (j k : ℕ) → distinctIds rs ≡ true → j < length rs → k < length rs → idAt rs j ≡ idAt rs k → idAt rs j ≢ 0 → j ≡ k
+distinct-one [] j k g a b e z = absurd (omega arith)
+distinct-one (r ∷ rs) zero zero g a b e z = refl
+distinct-one (r ∷ rs) zero (suc k) g a b e z = absurd (index-missing (r .id .0) rs (distinct-head r rs g z) k (omega arith) (sym e))
+distinct-one (r ∷ rs) (suc j) zero g a b e z = absurd (index-missing (r .id .0) rs (distinct-head r rs g (λ w. z (e ∙ w))) j (omega arith) e)
+distinct-one (r ∷ rs) (suc j) (suc k) g a b e z = ap suc (distinct-one rs j k (distinct-tail r rs g) (omega arith) (omega arith) e z)
 
 -- ---- 2. storing a row
 
--- an id that neither the old nor the new row has stands where it stood
-pub index-set-other : (i : ℕ) (rs : List Row) (k : ℕ) (r : Row) → idAt rs k ≢ i → r .id .0 ≢ i → indexOf i (set rs k r) ≡ indexOf i rs
-index-set-other i [] k r a b = refl
-index-set-other i (q ∷ rs) zero r a b = index-later i r rs b ∙ sym (index-later i q rs a)
-index-set-other i (q ∷ rs) (suc k) r a b =
-    same-or-not (q .id .0) i
-    (λ e. index-here i q (set rs k r) e ∙ sym (index-here i q rs e))
-    (λ n. index-later i q (set rs k r) n ∙ ap suc (index-set-other i rs k r a b) ∙ sym (index-later i q rs n))
+-- an id that both the old and the new row have, or neither, stands where it stood
+index-set : (i : ℕ) (rs : List Row) (k : ℕ) (r : Row) → eqb (r .id .0) i ≡ eqb (idAt rs k) i → indexOf i (set rs k r) ≡ indexOf i rs
+unfolding indexOf
+index-set i [] k r e = refl
+index-set i (q ∷ rs) zero r e = ap (λ (t : Bool). pick t 0 (suc (indexOf i rs))) e
+index-set i (q ∷ rs) (suc k) r e = ap (λ (n : ℕ). pick (eqb (q .id .0) i) 0 (suc n)) (index-set i rs k r e)
 
--- a row that keeps the id changes no index
+pub index-set-other : (i : ℕ) (rs : List Row) (k : ℕ) (r : Row) → idAt rs k ≢ i → r .id .0 ≢ i → indexOf i (set rs k r) ≡ indexOf i rs
+index-set-other i rs k r a b = index-set i rs k r (ne-eqb (r .id .0) i b ∙ sym (ne-eqb (idAt rs k) i a))
+
 pub index-set-same : (i : ℕ) (rs : List Row) (k : ℕ) (r : Row) → r .id .0 ≡ idAt rs k → indexOf i (set rs k r) ≡ indexOf i rs
-index-set-same i [] k r e = refl
-index-set-same i (q ∷ rs) zero r e =
-    same-or-not (q .id .0) i
-    (λ h. index-here i r rs (e ∙ h) ∙ sym (index-here i q rs h))
-    (λ n. index-later i r rs (λ h. n (sym e ∙ h)) ∙ sym (index-later i q rs n))
-index-set-same i (q ∷ rs) (suc k) r e =
-    same-or-not (q .id .0) i
-    (λ h. index-here i q (set rs k r) h ∙ sym (index-here i q rs h))
-    (λ n. index-later i q (set rs k r) n ∙ ap suc (index-set-same i rs k r e) ∙ sym (index-later i q rs n))
+index-set-same i rs k r e = index-set i rs k r (ap (λ (x : ℕ). eqb x i) e)
+
+-- an id that no row had is in none after a row without it
+pub missing-set : (i : ℕ) (rs : List Row) (k : ℕ) (r : Row) → indexOf i rs ≡ length rs → r .id .0 ≢ i → indexOf i (set rs k r) ≡ length (set rs k r)
+missing-set i [] k r m n = m
+missing-set i (q ∷ rs) zero r m n = index-later i r rs n ∙ sym (index-later i q rs (λ e. omega (arith, index-here i q rs e))) ∙ m
+missing-set i (q ∷ rs) (suc k) r m n =
+    let d : q .id .0 ≢ i = λ e. omega (arith, index-here i q rs e) in
+    index-later i q (set rs k r) d ∙ ap suc (missing-set i rs k r (omega (arith, index-later i q rs d)) n)
 
 -- an id that no row had stands where its row was stored
 pub index-set-new : (i : ℕ) (rs : List Row) (k : ℕ) (r : Row) → k < length rs → indexOf i rs ≡ length rs → r .id .0 ≡ i → indexOf i (set rs k r) ≡ k
 index-set-new i [] k r h m e = absurd (omega arith)
 index-set-new i (q ∷ rs) zero r h m e = index-here i r rs e
 index-set-new i (q ∷ rs) (suc k) r h m e =
-    index-later i q (set rs k r) (missing-head i q rs m) ∙ ap suc (index-set-new i rs k r (omega arith) (missing-tail i q rs m) e)
-
--- an id that no row had is in none after a row without it
-pub missing-set : (i : ℕ) (rs : List Row) (k : ℕ) (r : Row) → indexOf i rs ≡ length rs → r .id .0 ≢ i → indexOf i (set rs k r) ≡ length (set rs k r)
-missing-set i [] k r m n = m
-missing-set i (q ∷ rs) zero r m n = missing-cons i r rs n (missing-tail i q rs m)
-missing-set i (q ∷ rs) (suc k) r m n = missing-cons i q (set rs k r) (missing-head i q rs m) (missing-set i rs k r (missing-tail i q rs m) n)
+    let d : q .id .0 ≢ i = λ z. omega (arith, index-here i q rs z) in
+    index-later i q (set rs k r) d ∙ ap suc (index-set-new i rs k r (omega arith) (omega (arith, index-later i q rs d)) e)
 
 -- an id whose one row is stored over is in none
 pub index-set-gone : (i : ℕ) (rs : List Row) (k : ℕ) (r : Row) → distinctIds rs ≡ true → k < length rs → idAt rs k ≡ i → i ≢ 0 → r .id .0 ≢ i
     → indexOf i (set rs k r) ≡ length (set rs k r)
-index-set-gone i [] k r g h e z n = absurd (omega arith)
-index-set-gone i (q ∷ rs) zero r g h e z n =
-    missing-cons i r rs n (subst (λ (x : ℕ). indexOf x rs ≡ length rs) e (distinct-head q rs g (λ w. z (sym e ∙ w))))
-index-set-gone i (q ∷ rs) (suc k) r g h e z n =
-    let t : distinctIds rs ≡ true = distinct-tail q rs g in
-    missing-cons i q (set rs k r)
-    (λ w. let m : indexOf i rs ≡ length rs = subst (λ (x : ℕ). indexOf x rs ≡ length rs) w (distinct-head q rs g (λ v. z (sym w ∙ v))) in
-    index-missing i rs m k (omega arith) e)
-    (index-set-gone i rs k r t (omega arith) e z n)
+index-set-gone i rs k r g h e z n =
+    missing-index i (set rs k r) λ j b.
+    set-each (λ _ (x : Row). x .id .0 ≢ i) rs k r noRow h n
+    (λ j b d q. d (distinct-one rs j k g b h (q ∙ sym e) (λ w. z (sym q ∙ w)))) j (omega (arith, length-set rs k r))
 
--- ---- 3. distinct ids after storing
-
--- a row with an id that no row has: opening
-pub distinct-set-new : (rs : List Row) (k : ℕ) (r : Row) → indexOf (r .id .0) rs ≡ length rs → distinctIds rs ≡ true → distinctIds (set rs k r) ≡ true
-distinct-set-new [] k r m g = g
-distinct-set-new (q ∷ rs) zero r m g = distinct-cons r rs (λ n. missing-tail (r .id .0) q rs m) (distinct-tail q rs g)
-distinct-set-new (q ∷ rs) (suc k) r m g =
+-- ids stay distinct where no other row has the new row's
+pub distinct-set : (rs : List Row) (k : ℕ) (r : Row) → (r .id .0 ≢ 0 → (j : ℕ) → j < length rs → j ≢ k → idAt rs j ≢ r .id .0)
+    → distinctIds rs ≡ true → distinctIds (set rs k r) ≡ true
+distinct-set [] k r f g = g
+distinct-set (q ∷ rs) zero r f g =
+    distinct-cons r rs (λ n. missing-index (r .id .0) rs (λ j b. f n (suc j) (omega arith) (λ e. omega arith))) (distinct-tail q rs g)
+distinct-set (q ∷ rs) (suc k) r f g =
     distinct-cons q (set rs k r)
-    (λ n. missing-set (q .id .0) rs k r (distinct-head q rs g n) (λ w. missing-head (r .id .0) q rs m (sym w)))
-    (distinct-set-new rs k r (missing-tail (r .id .0) q rs m) (distinct-tail q rs g))
+    (λ n. missing-set (q .id .0) rs k r (distinct-head q rs g n) (λ e. f (λ z. n (sym e ∙ z)) 0 (omega arith) (λ z. omega arith) (sym e)))
+    (distinct-set rs k r (λ n j b d. f n (suc j) (omega arith) (λ e. d (omega arith))) (distinct-tail q rs g))
 
--- ---- 4. the sum of shares
+-- ---- 3. the sum of shares
 
 -- a row's share goes out, another's comes in
 pub shares-set : (rs : List Row) (k : ℕ) (r : Row) → k < length rs → sharesIn (set rs k r) + shareOf (getD rs k noRow) ≡ sharesIn rs + shareOf r
 unfolding sharesIn
-shares-set [] k r h = absurd (omega arith)
-shares-set (q ∷ rs) zero r h = omega arith
-shares-set (q ∷ rs) (suc k) r h = omega (arith, shares-set rs k r (omega arith))
+shares-set rs k r h = sum-set sharesIn shareOf (λ a l. refl) rs k r noRow h
 
 -- each share is part of the sum
 pub share-below : (rs : List Row) (k : ℕ) → k < length rs → shareOf (getD rs k noRow) ≤ sharesIn rs
-unfolding sharesIn
-share-below [] k h = absurd (omega arith)
-share-below (q ∷ rs) zero h = omega arith
-share-below (q ∷ rs) (suc k) h = omega (arith, share-below rs k (omega arith))
-
--- the sum after storing, as the others' shares and the new one
-pub shares-after : (rs : List Row) (k : ℕ) (r : Row) → k < length rs → sharesIn (set rs k r) ≡ (sharesIn rs - shareOf (getD rs k noRow)) + shareOf r
-shares-after rs k r h = omega (arith, shares-set rs k r h, share-below rs k h)
+unfolding heldIn
+share-below rs k h = omega (arith, shares-set rs k noRow h)
 
 -- within its guarantee a row finds room, whatever the others hold
 pub shares-modest : (rs : List Row) (k held most : ℕ) → k < length rs → sharesIn rs ≤ most → held ≤ getD rs k noRow .guarantee
     → (sharesIn rs - shareOf (getD rs k noRow)) + max held (getD rs k noRow .guarantee) ≤ most
 shares-modest rs k held most h s p = omega (arith, share-below rs k h)
 
--- ---- 5. the lowest free id
+-- ---- 4. the lowest free id
 
 -- the first one tried is free
-pub lowest-here : (n k : ℕ) (rs : List Row) → indexOf k rs ≡ length rs → lowestFree (suc n) k rs ≡ k
+lowest-here : (n k : ℕ) (rs : List Row) → indexOf k rs ≡ length rs → lowestFree (suc n) k rs ≡ k
 unfolding lowestFree
 lowest-here n k rs e = ap (λ (t : Bool). pick t k (lowestFree n (suc k) rs)) (eq-eqb (indexOf k rs) (length rs) e)
 
 -- the first one tried is in a row
-pub lowest-later : (n k : ℕ) (rs : List Row) → indexOf k rs ≢ length rs → lowestFree (suc n) k rs ≡ lowestFree n (suc k) rs
+lowest-later : (n k : ℕ) (rs : List Row) → indexOf k rs ≢ length rs → lowestFree (suc n) k rs ≡ lowestFree n (suc k) rs
 unfolding lowestFree
 lowest-later n k rs h = ap (λ (t : Bool). pick t k (lowestFree n (suc k) rs)) (ne-eqb (indexOf k rs) (length rs) h)
 
 -- none is left to try
-pub lowest-none : (k : ℕ) (rs : List Row) → lowestFree 0 k rs ≡ 0
+lowest-none : (k : ℕ) (rs : List Row) → lowestFree 0 k rs ≡ 0
 unfolding lowestFree
 lowest-none k rs = refl
 
--- 1 for an id in a row; how many of so many ids from k on are
-abbrev inRow : ℕ → List Row → ℕ
-inRow k rs = pick (eqb (indexOf k rs) (length rs)) 0 1
+-- how many rows have an id of k or more
+unfoldable above : ℕ → List Row → ℕ
+above k [] = 0
+above k (r ∷ rs) = min 1 (suc (r .id .0) - k) + above k rs
 
-unfoldable taken : ℕ → ℕ → List Row → ℕ
-taken zero k rs = 0
-taken (suc n) k rs = inRow k rs + taken n (suc k) rs
+above-most : (k : ℕ) (rs : List Row) → above k rs ≤ length rs
+unfolding above
+above-most k [] = omega arith
+above-most k (r ∷ rs) = omega (arith, above-most k rs)
 
-in-no-row : (k : ℕ) (rs : List Row) → indexOf k rs ≡ length rs → inRow k rs ≡ 0
-in-no-row k rs e = ap (λ (t : Bool). pick {A = ℕ} t 0 1) (eq-eqb (indexOf k rs) (length rs) e)
+above-less : (k : ℕ) (rs : List Row) → above (suc k) rs ≤ above k rs
+unfolding above
+above-less k [] = omega arith
+above-less k (r ∷ rs) = omega (arith, above-less k rs)
 
-in-a-row : (k : ℕ) (rs : List Row) → indexOf k rs ≢ length rs → inRow k rs ≡ 1
-in-a-row k rs h = ap (λ (t : Bool). pick {A = ℕ} t 0 1) (ne-eqb (indexOf k rs) (length rs) h)
-
-in-one : (k : ℕ) (rs : List Row) → inRow k rs ≤ 1
-in-one k rs = same-or-not (indexOf k rs) (length rs) (λ e. omega (arith, in-no-row k rs e)) (λ n. omega (arith, in-a-row k rs n))
-
--- a row with another id is none for this one
-in-rest : (k : ℕ) (r : Row) (rs : List Row) → r .id .0 ≢ k → inRow k (r ∷ rs) ≡ inRow k rs
-in-rest k r rs n =
-    same-or-not (indexOf k rs) (length rs)
-    (λ e. in-no-row k (r ∷ rs) (missing-cons k r rs n e) ∙ sym (in-no-row k rs e))
-    (λ h. in-a-row k (r ∷ rs) (λ e. h (missing-tail k r rs e)) ∙ sym (in-a-row k rs h))
-
--- so each row takes one id at most
-taken-past : (n k : ℕ) (r : Row) (rs : List Row) → r .id .0 < k → taken n k (r ∷ rs) ≤ taken n k rs
-unfolding taken
-taken-past zero k r rs h = omega arith
-taken-past (suc n) k r rs h = omega (arith, in-rest k r rs (λ e. omega arith), taken-past n (suc k) r rs (omega arith))
-
-taken-row : (n k : ℕ) (r : Row) (rs : List Row) → taken n k (r ∷ rs) ≤ suc (taken n k rs)
-unfolding taken
-taken-row zero k r rs = omega arith
-taken-row (suc n) k r rs =
-    same-or-not (r .id .0) k
-    (λ e. omega (arith, in-one k (r ∷ rs), taken-past n (suc k) r rs (omega arith)))
-    (λ h. omega (arith, in-rest k r rs h, taken-row n (suc k) r rs))
-
-taken-empty : (n k : ℕ) → taken n k [] ≡ 0
-unfolding taken
-taken-empty zero k = refl
-taken-empty (suc n) k = omega (arith, in-no-row k [] (index-none k), taken-empty n (suc k))
-
-taken-most : (n k : ℕ) (rs : List Row) → taken n k rs ≤ length rs
-taken-most n k [] = omega (arith, taken-empty n k)
-taken-most n k (r ∷ rs) = omega (arith, taken-row n k r rs, taken-most n k rs)
+-- an id in a row takes one of them
+above-one : (k : ℕ) (rs : List Row) → indexOf k rs ≢ length rs → suc (above (suc k) rs) ≤ above k rs
+unfolding above
+above-one k [] h = absurd (h (index-none k))
+above-one k (r ∷ rs) h =
+    same-or-not (r .id .0) k (λ e. omega (arith, above-less k rs)) (λ n. omega (arith, above-one k rs (λ e. h (index-later k r rs n ∙ ap suc e))))
 
 -- where none is found, each is in a row
-taken-all : (n k : ℕ) (rs : List Row) → 0 < k → lowestFree n k rs ≡ 0 → taken n k rs ≡ n
-unfolding taken
-taken-all zero k rs h e = refl
-taken-all (suc n) k rs h e =
+none-free : (n k : ℕ) (rs : List Row) → 0 < k → lowestFree n k rs ≡ 0 → n ≤ above k rs
+none-free zero k rs h e = omega arith
+none-free (suc n) k rs h e =
     same-or-not (indexOf k rs) (length rs)
     (λ q. absurd (omega (arith, lowest-here n k rs q)))
-    (λ q. omega (arith, in-a-row k rs q, taken-all n (suc k) rs (omega arith) (sym (lowest-later n k rs q) ∙ e)))
+    (λ q. omega (arith, above-one k rs q, none-free n (suc k) rs (omega arith) (sym (lowest-later n k rs q) ∙ e)))
 
 -- with more ids than rows, one is found
-pub lowest-some : (n k : ℕ) (rs : List Row) → 0 < k → length rs < n → 0 < lowestFree n k rs
+lowest-some : (n k : ℕ) (rs : List Row) → 0 < k → length rs < n → 0 < lowestFree n k rs
 lowest-some n k rs h s =
     same-or-not (lowestFree n k rs) 0
-    (λ e. absurd (omega (arith, taken-all n k rs h e, taken-most n k rs)))
+    (λ e. absurd (omega (arith, none-free n k rs h e, above-most k rs)))
     (λ q. omega arith)
 
 -- what is found: it is among those tried, no row has it, and each before it is in a row
@@ -299,7 +233,7 @@ pub record Lowest (n k : ℕ) (rs : List Row) (i : ℕ) : Type 0 where
   pub used : (j : ℕ) → k ≤ j → j < i → indexOf j rs < length rs
 
 -- what is found is the lowest
-pub lowest-is : (n k : ℕ) (rs : List Row) → 0 < lowestFree n k rs → Lowest n k rs (lowestFree n k rs)
+lowest-is : (n k : ℕ) (rs : List Row) → 0 < lowestFree n k rs → Lowest n k rs (lowestFree n k rs)
 lowest-is zero k rs h = absurd (omega (arith, lowest-none k rs))
 lowest-is (suc n) k rs h =
     same-or-not (indexOf k rs) (length rs)
@@ -335,7 +269,7 @@ lowest-book b rs f (suc n) k h =
     (λ d. ap (λ (t : Bool). pick t (lowestIn b n (suc k)) k) (f k h ∙ lt-ltb (indexOf k rs) (length rs) (omega (arith, index-below k rs)))
     ∙ lowest-book b rs f n (suc k) (omega arith) ∙ sym (lowest-later n k rs d))
 
--- ---- 6. five places, and the rows that are made
+-- ---- 5. five places, and the rows that are made
 
 -- and so after storing a row of five
 pub five-set : (rs : List Row) (k : ℕ) (r : Row) → FiveEach rs → length (r .messages) ≡ 5 → FiveEach (set rs k r)
@@ -362,3 +296,17 @@ owner-next i place = omega arith
 pub owner-some : (i place : ℕ) → ownerOf i place ≡ 0 → ⊥
 unfolding ownerOf
 owner-some i place e = omega arith
+
+-- owners of two rows or places differ
+pub owner-apart : (i k p q : ℕ) → p < 5 → q < 5 → ((k ≡ i) × (q ≡ p) → ⊥) → ownerOf k q ≢ ownerOf i p
+unfolding ownerOf
+owner-apart i k p q a b n e = let x : k ≡ i = omega arith in let y : q ≡ p = omega arith in n (x, y)
+
+-- a row's owners stand together, and no other row's among them
+pub owner-outside : (i k q : ℕ) → q < 5 → k ≢ i → Outside (ownerOf i 0) (ownerOf i 4) (ownerOf k q)
+unfolding ownerOf
+owner-outside i k q h n a b = n (omega arith)
+
+pub owner-inside : (i q : ℕ) → q < 5 → (ownerOf i 0 ≤ ownerOf i q) × (ownerOf i q ≤ ownerOf i 4) × (suc (ownerOf i 4) - ownerOf i 0 ≡ 5)
+unfolding ownerOf
+owner-inside i q h = (omega arith, omega arith, omega arith)

@@ -1,120 +1,54 @@
--- A frame in an open session keeps the state rules: one row put in another's place, and a map that moves as the row does. By induction over the rows.
+-- A frame in an open session keeps the state rules: one row put in another's place, and a map that moves as the row does. By the cases of the decision.
 -- Assumes nothing.
 use mathlib.Core.Path.{_≡_, refl, sym, ap, subst, _∙_}
-use Prim.Native.Nat.{ℕ, zero, suc, _+_, _-_, _*_, _≤_, _<_, max, min}
+use Prim.Native.Nat.{ℕ, zero, suc, _+_, _-_, _*_, _≤_, _<_, max}
 use native.Mathlib.Omega.{arith}
-use mathlib.Core.Bool.{Bool, true, false, _&&_, _||_}
+use mathlib.Core.Bool.{true}
 use mathlib.Core.List.{List, [], _∷_}
-use lib.Dec.{eqb, leb}
 use lib.ListN.{length, getD, set, length-set, getD-replicate}
-use borrow.Author.Tests.{eqb-true, eqb-false, eq-eqb, ne-eqb, leb-true, le-leb}
-use Rattle.numbers.specs.Bytes.{pick}
-use Rattle.numbers.proofs.Choices.{and-yes, and-both}
+use Rattle.numbers.proofs.Choices.{and-yes, and-both, same-or-not}
 use Rattle.frame.specs.declared.Header.{Header}
+use Rattle.frame.specs.declared.SessionId.{SessionId}
+use Rattle.frame.proofs.Laws.{Sound, version-range}
 use Rattle.session.specs.declared.Row.{Row}
 use Rattle.session.specs.declared.Act.{Act}
-use Rattle.session.specs.declared.Act.the-variants.{Refuse, Drop, Accept, Beat, Start, NoStart, Stop, Close, NoEnd, Claim, Append, Deliver, Single}
-use Rattle.session.specs.declared.Reassembly.{Reassembly}
 use Rattle.session.specs.Rows.{noRow, noReassembly, freeRow, messageAt}
-use Rattle.blocks.specs.Map.{heldBy, heldByAll, freeIn, claimed, released, Outside}
+use Rattle.session.specs.Rules.{isRunning}
+use Rattle.session.specs.Decide.{placeOf, needOf, heldBy as heldFor, heldOf, shareOf}
+use Rattle.blocks.specs.Map.{heldBy, heldByAll, freeIn, claimed, released}
 use Rattle.blocks.proofs.Contents.{append-length}
 use Rattle.blocks.proofs.Counts.{claim-gives, claim-lowers, claim-leaves, claim-length, release-takes, release-leaves, release-one, release-raises, release-length}
-use Rattle.session.specs.Decide.{placeOf, needOf, heldBy as heldFor, heldIn, heldOf, shareOf, rowAfter}
-use Rattle.link.specs.State.{freeFits, roomFits, versionAllowed, unsettledFits, messageFits, allFrom, indexOf, sharesIn, distinctIds, ownerOf, blocksFit, rowFits, rulesHold, withRow, withOwners}
-use Rattle.link.specs.declared.Link.{Link}
+use Rattle.link.specs.State.{freeFits, allFrom, sharesIn, ownerOf, blocksFit, rowFits, withRow, withOwners}
 use Rattle.link.specs.declared.Grant.{Grant}
-use Rattle.link.specs.Call.{After, applied, decisionOf}
-use Rattle.frame.proofs.Laws.{Sound}
+use Rattle.link.specs.Call.{After, applied}
+use Rattle.link.specs.Book.{Ask}
+use Rattle.link.specs.Claim.{State}
 use Rattle.link.specs.Pages.{FiveEach, Sane}
-use Rattle.link.proofs.Holdings.{five-at, row-fits-at}
-use Rattle.link.proofs.Table.{shares-set, share-below, five-set, owner-next, owner-some}
-use Rattle.link.proofs.RowRules.{RowFacts, facts-of, decision-kept, place-below, from-make, set-each, RowKept, Outcome, after-shares, after-five, after-id, after-row-fits, blocks-say, say-blocks, blocks-kept, blocks-same, free-held, held-none}
-
--- after a decision on a row, the sum is still within the pool
-pub shares-after : (rs : List Row) (i major : ℕ) (h : Header) (hash : ℕ) (act : Act) → i < length rs → sharesIn rs ≤ 256
-    → Outcome major (sharesIn rs - shareOf (getD rs i noRow)) (getD rs i noRow) h hash act → sharesIn (set rs i (rowAfter (getD rs i noRow) h hash act)) ≤ 256
-shares-after rs i major h hash act l w o =
-    let r : Row = getD rs i noRow in
-    let others : ℕ = sharesIn rs - shareOf r in
-    let after : Row = rowAfter r h hash act in
-    let m : shareOf r ≤ sharesIn rs = share-below rs i l in
-    let e : sharesIn (set rs i after) + shareOf r ≡ sharesIn rs + shareOf after = shares-set rs i after l in
-    let k : others + shareOf after ≤ 256 = after-shares major others r h hash act o (omega arith) in
-    omega arith
-
--- ids
-abbrev Same : Row → Row → Type 0
-Same r a = (a .id .0 ≡ 0 → ⊥) → a .id .0 ≡ r .id .0
-
-absent : (j : ℕ) (a : Row) (rs : List Row) → indexOf j (a ∷ rs) ≡ suc (length rs) → (a .id .0 ≡ j → ⊥) × (indexOf j rs ≡ length rs)
-unfolding indexOf
-absent j a rs = by (eqb (a .id .0) j) (eqb-false (a .id .0) j)
-  where
-    by : (b : Bool) → (b ≡ false → a .id .0 ≡ j → ⊥) → pick b 0 (suc (indexOf j rs)) ≡ suc (length rs) → (a .id .0 ≡ j → ⊥) × (indexOf j rs ≡ length rs)
-    by true f e = absurd (omega arith)
-    by false f e = (f refl, omega arith)
-
-still-absent : (j : ℕ) (a : Row) (rs : List Row) → (a .id .0 ≡ j → ⊥) → indexOf j rs ≡ length rs → indexOf j (a ∷ rs) ≡ suc (length rs)
-unfolding indexOf
-still-absent j a rs n e = rw (ne-eqb (a .id .0) j n, e)
-
--- an id that no row has is in none after a row kept its id or lost it
-pub absent-set : (j : ℕ) (rs : List Row) (i : ℕ) (a : Row) → (j ≡ 0 → ⊥) → Same (getD rs i noRow) a → indexOf j rs ≡ length rs → indexOf j (set rs i a) ≡ length rs
-absent-set j [] i a n s e = e
-absent-set j (b ∷ rs) zero a n s e =
-    let p = absent j b rs e in
-    still-absent j a rs (λ z. p .0 (sym (s (λ y. n (sym z ∙ y))) ∙ z)) (p .1)
-absent-set j (b ∷ rs) (suc i) a n s e =
-    let p = absent j b rs e in
-    let q : indexOf j (set rs i a) ≡ length rs = absent-set j rs i a n s (p .1) in
-    let l : length (set rs i a) ≡ length rs = length-set rs i a in
-    rw l at (still-absent j b (set rs i a) (p .0) (q ∙ sym l))
-
-or-elim : (b c : Bool) → b || c ≡ true → (b ≡ false → c ≡ true)
-or-elim true c e f = cc
-or-elim false c e f = e
-
-elim-or : (b c : Bool) → (b ≡ false → c ≡ true) → b || c ≡ true
-elim-or true c f = refl
-elim-or false c f = f refl
-
-pub distinct-set : (rs : List Row) (i : ℕ) (a : Row) → Same (getD rs i noRow) a → distinctIds rs ≡ true → distinctIds (set rs i a) ≡ true
-unfolding distinctIds
-distinct-set [] i a s e = e
-distinct-set (b ∷ rs) zero a s e =
-    let p = and-both (eqb (b .id .0) 0 || eqb (indexOf (b .id .0) rs) (length rs)) (distinctIds rs) e in
-    and-yes (eqb (a .id .0) 0 || eqb (indexOf (a .id .0) rs) (length rs)) (distinctIds rs)
-    (elim-or (eqb (a .id .0) 0) (eqb (indexOf (a .id .0) rs) (length rs)) (λ t.
-    let n : a .id .0 ≡ 0 → ⊥ = eqb-false (a .id .0) 0 t in
-    let q : a .id .0 ≡ b .id .0 = s n in
-    subst (λ (x : ℕ). eqb (indexOf x rs) (length rs) ≡ true) (sym q)
-    (or-elim (eqb (b .id .0) 0) (eqb (indexOf (b .id .0) rs) (length rs)) (p .0) (ne-eqb (b .id .0) 0 (λ z. n (q ∙ z))))))
-    (p .1)
-distinct-set (b ∷ rs) (suc i) a s e =
-    let p = and-both (eqb (b .id .0) 0 || eqb (indexOf (b .id .0) rs) (length rs)) (distinctIds rs) e in
-    let l : length (set rs i a) ≡ length rs = length-set rs i a in
-    and-yes (eqb (b .id .0) 0 || eqb (indexOf (b .id .0) (set rs i a)) (length (set rs i a))) (distinctIds (set rs i a))
-    (elim-or (eqb (b .id .0) 0) (eqb (indexOf (b .id .0) (set rs i a)) (length (set rs i a))) (λ t.
-    let old : indexOf (b .id .0) rs ≡ length rs = eqb-true (indexOf (b .id .0) rs) (length rs) (or-elim (eqb (b .id .0) 0) (eqb (indexOf (b .id .0) rs) (length rs)) (p .0) t) in
-    eq-eqb (indexOf (b .id .0) (set rs i a)) (length (set rs i a)) (absent-set (b .id .0) rs i a (eqb-false (b .id .0) 0 t) s old ∙ sym l)))
-    (distinct-set rs i a s (p .1))
+use Rattle.link.proofs.Each.{each-make, set-each, sum-set}
+use Rattle.link.proofs.Shown.{Rules, rules-say, say-rules}
+use Rattle.link.proofs.Table.{distinct-one, distinct-set, shares-set, share-below, five-set, free-held, owner-some, owner-apart, owner-outside, owner-inside}
+use Rattle.link.proofs.Holdings.{five-at, row-fits-at, blocks-say, say-blocks, row-owned}
+use Rattle.link.proofs.Decisions.{Decided, refuses, accepts, beats, starts, starts-not, stops, closes, ends-not, hands-over, claims, drops, appends, delivers}
+use Rattle.link.proofs.RowFacts.{place-below, service-place, facts-fit, OpenFacts}
+use Rattle.link.proofs.RowRules.{held-idle, fits-settled, fits-allowed, runs-in, RowKept, kept-single, kept-start, kept-claim, kept-drop, kept-fed, kept-stop}
 
 -- every row's rule, where the map changed only for the row that was set
 pub rows-set : (major : ℕ) (owners owners′ : List ℕ) (rs : List Row) (i : ℕ) (a : Row) → i < length rs → rowFits major owners′ i a ≡ true
     → ((k : ℕ) → k < length rs → (k ≡ i → ⊥) → rowFits major owners k (getD rs k noRow) ≡ true → rowFits major owners′ k (getD rs k noRow) ≡ true)
     → allFrom 0 (rowFits major owners) rs ≡ true → allFrom 0 (rowFits major owners′) (set rs i a) ≡ true
 rows-set major owners owners′ rs i a h q f e =
-    let l : length (set rs i a) ≡ length rs = length-set rs i a in
-    from-make 0 (rowFits major owners′) (set rs i a) noRow (λ k j.
-    let z : 0 + k ≡ k = omega arith in
-    rw z (set-each (λ (k : ℕ) (r : Row). rowFits major owners′ k r ≡ true) rs i a noRow h q
-    (λ k j n. f k j n (row-fits-at major owners rs k e j)) k (omega arith)))
+    each-make (rowFits major owners′) (set rs i a) noRow (λ k j.
+    set-each (λ (k : ℕ) (r : Row). rowFits major owners′ k r ≡ true) rs i a noRow h q (λ k j n. f k j n (row-fits-at major owners rs k e j)) k (omega (arith, length-set rs i a)))
 
 -- ---- the blocks of all rows
 
 unfoldable pub heldsIn : List Row → ℕ
 heldsIn [] = 0
 heldsIn (r ∷ rs) = heldOf r + heldsIn rs
+
+helds-set : (rs : List Row) (i : ℕ) (r : Row) → i < length rs → heldsIn (set rs i r) + heldOf (getD rs i noRow) ≡ heldsIn rs + heldOf r
+unfolding heldsIn
+helds-set rs i r h = sum-set heldsIn heldOf (λ a l. refl) rs i r noRow h
 
 -- no row holds more than its share
 helds-most : (rs : List Row) → heldsIn rs ≤ sharesIn rs
@@ -123,11 +57,8 @@ helds-most [] = omega arith
 helds-most (a ∷ rs) = omega (arith, helds-most rs)
 
 -- what the rows hold, without one of them, is at most what the others' shares take
-pub helds-less : (rs : List Row) (i : ℕ) → i < length rs → heldsIn rs + shareOf (getD rs i noRow) ≤ sharesIn rs + heldOf (getD rs i noRow)
-unfolding heldsIn sharesIn
-helds-less [] i h = absurd (omega arith)
-helds-less (a ∷ rs) zero h = omega (arith, helds-most rs)
-helds-less (a ∷ rs) (suc i) h = omega (arith, helds-less rs i (omega arith))
+helds-less : (rs : List Row) (i : ℕ) → i < length rs → heldsIn rs + shareOf (getD rs i noRow) ≤ sharesIn rs + heldOf (getD rs i noRow)
+helds-less rs i h = omega (arith, helds-set rs i freeRow h, shares-set rs i freeRow h, helds-most (set rs i freeRow), free-held)
 
 owners-join : (first a b : ℕ) (map : List ℕ) → heldByAll first (a + b) map ≡ heldByAll first a map + heldByAll (first + a) b map
 unfolding heldByAll
@@ -140,166 +71,36 @@ owners-join first (suc a) b map =
     let y : first + suc a ≡ suc first + a = omega arith in
     rw (z, y) (omega (arith, owners-join (suc first) a b map))
 
--- a row's owners have what its messages hold
-row-owned : (owners : List ℕ) (i n : ℕ) (ms : List Reassembly)
-    → ((k : ℕ) → k < length ms → heldBy (ownerOf i (n + k)) owners ≡ heldFor (getD ms k noReassembly)) → heldByAll (ownerOf i n) (length ms) owners ≡ heldIn ms
-unfolding heldByAll heldIn
-row-owned owners i n [] f = refl
-row-owned owners i n (m ∷ ms) f =
-    let z : n + 0 ≡ n = omega arith in
-    let head : heldBy (ownerOf i n) owners ≡ heldFor m = rw z at (f 0 (omega arith)) in
-    let more : heldByAll (ownerOf i (suc n)) (length ms) owners ≡ heldIn ms =
-    row-owned owners i (suc n) ms (λ k h. let y : n + suc k ≡ suc n + k = omega arith in rw y at (f (suc k) (omega arith))) in
-    let q : heldByAll (suc (ownerOf i n)) (length ms) owners ≡ heldIn ms = rw (owner-next i n) at more in
-    omega arith
-
 row-next : (n : ℕ) → ownerOf (suc n) 0 ≡ ownerOf n 0 + 5
 unfolding ownerOf
 row-next n = omega arith
-
-blocks-of-row : (major : ℕ) (owners : List ℕ) (n : ℕ) (r : Row) → length (r .messages) ≡ 5 → rowFits major owners n r ≡ true → heldByAll (ownerOf n 0) 5 owners ≡ heldOf r
-unfolding rowFits
-blocks-of-row major owners n r five e =
-    let p = and-both (blocksFit owners n r) _ e in
-    subst (λ (x : ℕ). heldByAll (ownerOf n 0) x owners ≡ heldOf r) five
-    (row-owned owners n 0 (r .messages) (λ k h. let z : 0 + k ≡ k = omega arith in rw z (blocks-say owners n r (p .0) k h)))
 
 none-owned : (first : ℕ) (map : List ℕ) → heldByAll first 0 map ≡ 0
 unfolding heldByAll
 none-owned first map = refl
 
 -- all rows' owners have what all rows hold
-pub rows-owned : (major : ℕ) (owners : List ℕ) (n : ℕ) (rs : List Row) → FiveEach rs → allFrom n (rowFits major owners) rs ≡ true
+rows-owned : (major : ℕ) (owners : List ℕ) (n : ℕ) (rs : List Row) → FiveEach rs → allFrom n (rowFits major owners) rs ≡ true
     → heldByAll (ownerOf n 0) (5 * length rs) owners ≡ heldsIn rs
-unfolding heldsIn
+unfolding heldsIn rowFits
 rows-owned major owners n [] five e = none-owned (ownerOf n 0) owners
 rows-owned major owners n (r ∷ rs) five e =
     let p = and-both (rowFits major owners n r) (allFrom (suc n) (rowFits major owners) rs) e in
-    let one : heldByAll (ownerOf n 0) 5 owners ≡ heldOf r = blocks-of-row major owners n r (five .0) (p .0) in
+    let one : heldByAll (ownerOf n 0) 5 owners ≡ heldOf r = row-owned owners n r (five .0) (and-both (blocksFit owners n r) _ (p .0) .0) in
     let more : heldByAll (ownerOf (suc n) 0) (5 * length rs) owners ≡ heldsIn rs = rows-owned major owners (suc n) rs (five .1) (p .1) in
     let next : heldByAll (ownerOf n 0 + 5) (5 * length rs) owners ≡ heldsIn rs = rw (row-next n) at more in
     let z : 5 * suc (length rs) ≡ 5 + 5 * length rs = omega arith in
     subst (λ (x : ℕ). heldByAll (ownerOf n 0) x owners ≡ heldOf r + heldsIn rs) (sym z) (owners-join (ownerOf n 0) 5 (5 * length rs) owners ∙ omega arith)
 
-first-owner : ownerOf 0 0 ≡ 1
-unfolding ownerOf
-first-owner = refl
-
 -- the forty owners have what the eight rows hold
 pub forty : (major : ℕ) (owners : List ℕ) (rs : List Row) → length rs ≡ 8 → FiveEach rs → allFrom 0 (rowFits major owners) rs ≡ true → heldByAll 1 40 owners ≡ heldsIn rs
+unfolding ownerOf
 forty major owners rs eight five e =
     let z : 5 * length rs ≡ 40 = omega arith in
     let o : heldByAll (ownerOf 0 0) (5 * length rs) owners ≡ heldsIn rs = rows-owned major owners 0 rs five e in
-    rw (first-owner, z) at o
+    rw z at o
 
--- what a row claims within its room is free in the map
-pub claim-free : (major : ℕ) (owners : List ℕ) (rs : List Row) (i need : ℕ) → length rs ≡ 8 → FiveEach rs → i < length rs → allFrom 0 (rowFits major owners) rs ≡ true
-    → heldByAll 1 40 owners + freeIn owners ≡ 256
-    → sharesIn rs - shareOf (getD rs i noRow) + max (heldOf (getD rs i noRow) + need) (getD rs i noRow .guarantee) ≤ 256 → need ≤ freeIn owners
-claim-free major owners rs i need eight five h e all w =
-    let a : heldByAll 1 40 owners ≡ heldsIn rs = forty major owners rs eight five e in
-    let b = helds-less rs i h in
-    let c = share-below rs i h in
-    omega arith
-
--- ---- the map after a decision
-
-owner-apart : (i k p q : ℕ) → p < 5 → q < 5 → ((k ≡ i) × (q ≡ p) → ⊥) → ownerOf k q ≡ ownerOf i p → ⊥
-unfolding ownerOf
-owner-apart i k p q a b n e = let x : k ≡ i = omega arith in let y : q ≡ p = omega arith in n (x, y)
-
--- what a change of the map does to row i and to no other
-pub record OwnersMoved (i : ℕ) (owners owners′ : List ℕ) (r after : Row) : Type 0 where
-  pub size : length owners′ ≡ length owners
-  pub mine : blocksFit owners′ i after ≡ true
-  pub others : (k : ℕ) → (k ≡ i → ⊥) → (q : ℕ) → q < 5 → heldBy (ownerOf k q) owners′ ≡ heldBy (ownerOf k q) owners
-  pub spare : freeIn owners′ + heldOf after ≡ freeIn owners + heldOf r
-
-module _ (major others i place : ℕ) (r after : Row) (owners : List ℕ) (below : place < 5) (five : length (r .messages) ≡ 5) (fit : blocksFit owners i r ≡ true) where
-  -- nothing freed, nothing claimed
-  pub moved-not : RowKept major others place r after 0 0 → OwnersMoved i owners owners r after
-  moved-not k =
-      let e = k .held in
-      record { size = refl; mine = blocks-same major others place r after owners i five below k fit; others = λ k n q h. refl; spare = omega arith }
-
-  -- the message's blocks freed
-  pub moved-free : (freed : ℕ) → freed ≡ heldFor (getD (r .messages) place noReassembly) → RowKept major others place r after freed 0
-      → OwnersMoved i owners (released (ownerOf i place) (ownerOf i place) owners) r after
-  moved-free freed f k =
-      let o : ℕ = ownerOf i place in
-      let some : o ≡ 0 → ⊥ = owner-some i place in
-      let had : heldBy o owners ≡ heldFor (getD (r .messages) place noReassembly) = blocks-say owners i r fit place (omega arith) in
-      let now : heldBy o (released o o owners) ≡ 0 = release-takes o o o owners some (omega arith) (omega arith) in
-      let gain : freeIn (released o o owners) ≡ freeIn owners + heldBy o owners = release-one o owners some in
-      let e = k .held in
-      let apart : (j q : ℕ) → q < 5 → ((j ≡ i) × (q ≡ place) → ⊥) → heldBy (ownerOf j q) (released o o owners) ≡ heldBy (ownerOf j q) owners =
-      λ j q h n. let d : ownerOf j q ≡ o → ⊥ = owner-apart i j place q below h n in release-leaves o o (ownerOf j q) owners (owner-some j q) (λ a b. d (omega arith)) in
-      record {
-        size = release-length o o owners;
-        mine = blocks-kept major others place r after freed 0 owners (released o o owners) i five below k fit (λ q h n. apart i q h (λ z. n (z .1))) (omega arith);
-        others = λ j n q h. apart j q h (λ z. n (z .0));
-        spare = omega arith;
-      }
-
-  -- blocks claimed, where so many are free
-  pub moved-claim : (need : ℕ) → need ≤ freeIn owners → RowKept major others place r after 0 need
-      → OwnersMoved i owners (claimed (ownerOf i place) need owners) r after
-  moved-claim need room k =
-      let o : ℕ = ownerOf i place in
-      let some : o ≡ 0 → ⊥ = owner-some i place in
-      let now : heldBy o (claimed o need owners) ≡ heldBy o owners + min need (freeIn owners) = claim-gives o need owners some in
-      let loss : freeIn (claimed o need owners) ≡ freeIn owners - need = claim-lowers o need owners some in
-      let e = k .held in
-      let apart : (j q : ℕ) → q < 5 → ((j ≡ i) × (q ≡ place) → ⊥) → heldBy (ownerOf j q) (claimed o need owners) ≡ heldBy (ownerOf j q) owners =
-      λ j q h n. claim-leaves (ownerOf j q) o need owners (owner-apart i j place q below h n) (owner-some j q) in
-      record {
-        size = claim-length o need owners;
-        mine = blocks-kept major others place r after 0 need owners (claimed o need owners) i five below k fit (λ q h n. apart i q h (λ z. n (z .1))) (omega arith);
-        others = λ j n q h. apart j q h (λ z. n (z .0));
-        spare = omega arith;
-      }
-
--- the whole row freed
-between : (i k q : ℕ) → q < 5 → (k ≡ i → ⊥) → Outside (ownerOf i 0) (ownerOf i 4) (ownerOf k q)
-unfolding ownerOf
-between i k q h n a b = n (omega arith)
-
-inside : (i q : ℕ) → q < 5 → (ownerOf i 0 ≤ ownerOf i q) × (ownerOf i q ≤ ownerOf i 4)
-unfolding ownerOf
-inside i q h = (omega arith, omega arith)
-
-five-owners : (i : ℕ) → suc (ownerOf i 4) - ownerOf i 0 ≡ 5
-unfolding ownerOf
-five-owners i = omega arith
-
-free-idle : (q : ℕ) → q < 5 → heldFor (getD (freeRow .messages) q noReassembly) ≡ 0
-free-idle q h = ap heldFor (getD-replicate 5 q noReassembly noReassembly h) ∙ held-none
-
-pub moved-close : (major i : ℕ) (r : Row) (owners : List ℕ) → length (r .messages) ≡ 5 → rowFits major owners i r ≡ true
-    → OwnersMoved i owners (released (ownerOf i 0) (ownerOf i 4) owners) r freeRow
-moved-close major i r owners five fit =
-    let low : ℕ = ownerOf i 0 in
-    let high : ℕ = ownerOf i 4 in
-    let some : low ≡ 0 → ⊥ = owner-some i 0 in
-    let raise : freeIn (released low high owners) ≡ freeIn owners + heldByAll low (suc high - low) owners = release-raises low high owners (omega arith) in
-    let sum : heldByAll low 5 owners ≡ heldOf r = blocks-of-row major owners i r five fit in
-    let gain : freeIn (released low high owners) ≡ freeIn owners + heldByAll low 5 owners = rw (five-owners i) at raise in
-    let none = free-held in
-    record {
-      size = release-length low high owners;
-      mine = say-blocks (released low high owners) i freeRow (λ q h.
-          release-takes low high (ownerOf i q) owners (owner-some i q) (inside i q h .0) (inside i q h .1) ∙ sym (free-idle q h));
-      others = λ k n q h. release-leaves low high (ownerOf k q) owners (owner-some k q) (between i k q h n);
-      spare = omega arith;
-    }
-
--- ---- the state rules after a decision
-
-pub helds-set : (rs : List Row) (i : ℕ) (r : Row) → i < length rs → heldsIn (set rs i r) + heldOf (getD rs i noRow) ≡ heldsIn rs + heldOf r
-unfolding heldsIn
-helds-set [] i r h = absurd (omega arith)
-helds-set (a ∷ rs) zero r h = omega arith
-helds-set (a ∷ rs) (suc i) r h = omega (arith, helds-set rs i r (omega arith))
+-- ---- a row put in another's place
 
 -- another row's rule reads the map only at its own owners
 row-elsewhere : (major : ℕ) (owners owners′ : List ℕ) (k : ℕ) (r : Row) → length (r .messages) ≡ 5
@@ -309,187 +110,157 @@ row-elsewhere major owners owners′ k r five f e =
     let p = and-both (blocksFit owners k r) _ e in
     and-yes (blocksFit owners′ k r) _ (say-blocks owners′ k r (λ q h. f q (omega arith) ∙ blocks-say owners k r (p .0) q h)) (p .1)
 
--- the state rules hold after a decision on an open row, if the map moved as the row did
-pub rules-after : (l : Link) (i : ℕ) (h : Header) (hash : ℕ) (act : Act) (owners′ : List ℕ) → length (l .rows) ≡ 8 → FiveEach (l .rows) → i < length (l .rows)
-    → (getD (l .rows) i noRow .id .0 ≡ 0 → ⊥) → rulesHold l ≡ true
-    → Outcome (l .version .major) (sharesIn (l .rows) - shareOf (getD (l .rows) i noRow)) (getD (l .rows) i noRow) h hash act
-    → OwnersMoved i (l .owners) owners′ (getD (l .rows) i noRow) (rowAfter (getD (l .rows) i noRow) h hash act)
-    → rulesHold (withOwners (withRow l i (rowAfter (getD (l .rows) i noRow) h hash act)) owners′) ≡ true
-unfolding rulesHold
-rules-after l i h hash act owners′ eight five b n e o m =
-    let rs : List Row = l .rows in
-    let r : Row = getD rs i noRow in
-    let a : Row = rowAfter r h hash act in
-    let major : ℕ = l .version .major in
-    let others : ℕ = sharesIn rs - shareOf r in
-    let p₁ = and-both (distinctIds rs) _ e in
-    let p₂ = and-both (allFrom 0 (rowFits major (l .owners)) rs) _ (p₁ .1) in
-    let p₃ = and-both (leb (sharesIn rs) 256) (eqb (heldByAll 1 40 (l .owners) + freeIn (l .owners)) 256) (p₂ .1) in
-    let total : heldByAll 1 40 (l .owners) + freeIn (l .owners) ≡ 256 = eqb-true (heldByAll 1 40 (l .owners) + freeIn (l .owners)) 256 (p₃ .1) in
-    let rows′ : allFrom 0 (rowFits major owners′) (set rs i a) ≡ true =
-    rows-set major (l .owners) owners′ rs i a b (after-row-fits major others r h hash act owners′ i n o (m .mine))
-    (λ k j d f. row-elsewhere major (l .owners) owners′ k (getD rs k noRow) (five-at rs k five j) (m .others k d) f) (p₂ .0) in
-    let five′ : FiveEach (set rs i a) = five-set rs i a five (after-five major others r h hash act o) in
-    let len : length (set rs i a) ≡ length rs = length-set rs i a in
-    let was : heldByAll 1 40 (l .owners) ≡ heldsIn rs = forty major (l .owners) rs eight five (p₂ .0) in
-    let is : heldByAll 1 40 owners′ ≡ heldsIn (set rs i a) = forty major owners′ (set rs i a) (len ∙ eight) five′ rows′ in
-    let moved : heldsIn (set rs i a) + heldOf r ≡ heldsIn rs + heldOf a = helds-set rs i a b in
-    let spare : freeIn owners′ + heldOf a ≡ freeIn (l .owners) + heldOf r = m .spare in
-    let now : heldByAll 1 40 owners′ + freeIn owners′ ≡ 256 = omega arith in
-    let within : sharesIn (set rs i a) ≤ 256 = shares-after rs i major h hash act b (leb-true (sharesIn rs) 256 (p₃ .0)) o in
-    and-yes (distinctIds (set rs i a)) _ (distinct-set rs i a (after-id major others r h hash act o) (p₁ .0))
-    (and-yes (allFrom 0 (rowFits major owners′) (set rs i a)) _ rows′
-    (and-yes (leb (sharesIn (set rs i a)) 256) _ (le-leb (sharesIn (set rs i a)) 256 within)
-    (eq-eqb (heldByAll 1 40 owners′ + freeIn owners′) 256 now)))
+-- what the state rules ask of a row in row n's place, and of a map that moves with it
+record Put (s : State) (n : ℕ) (after : Row) (owners : List ℕ) : Type 0 where
+  pub size : length owners ≡ length (s .link .owners)
+  pub fits : rowFits (s .link .version .major) owners n after ≡ true
+  pub five : length (after .messages) ≡ 5
+  pub ids : (after .id .0 ≡ 0 → ⊥) → after .id .0 ≡ getD (s .link .rows) n noRow .id .0
+  pub shares : sharesIn (s .link .rows) - shareOf (getD (s .link .rows) n noRow) + shareOf after ≤ 256
+  pub others : (j : ℕ) → (j ≡ n → ⊥) → (q : ℕ) → q < 5 → heldBy (ownerOf j q) owners ≡ heldBy (ownerOf j q) (s .link .owners)
+  pub spare : freeIn owners + heldOf after ≡ freeIn (s .link .owners) + heldOf (getD (s .link .rows) n noRow)
 
--- what stays of the arrays and the settings
-pub record Arrays (l : Link) (p : List ℕ) (after : Link) (pool′ : List ℕ) : Type 0 where
-  pub rows : length (after .rows) ≡ length (l .rows)
-  pub five : FiveEach (after .rows)
-  pub owners : length (after .owners) ≡ length (l .owners)
-  pub pool : length pool′ ≡ length p
-  pub version : after .version ≡ l .version
-  pub mtu : after .mtu ≡ l .mtu
+module _ (s : State) (i n : ℕ) (k : Sane s) (f : OpenFacts s i n) where
+  abbrev r : Row
+  r = getD (s .link .rows) n noRow
 
--- the state rules hold after all that is done about a decision: the map moves as the row does
-module _ (l : Link) (i : ℕ) (p out : List ℕ) (h : Header) (consumed : ℕ) (payload : List ℕ) (g : Grant) (eight : length (l .rows) ≡ 8) (five : FiveEach (l .rows)) (b : i < length (l .rows))
-    (n : getD (l .rows) i noRow .id .0 ≡ 0 → ⊥) (e : rulesHold l ≡ true) where
-  abbrev Here : Act → Type 0
-  Here act = Outcome (l .version .major) (sharesIn (l .rows) - shareOf (getD (l .rows) i noRow)) (getD (l .rows) i noRow) h (g .hash) act
+  abbrev major : ℕ
+  major = s .link .version .major
 
-  row-rule : rowFits (l .version .major) (l .owners) i (getD (l .rows) i noRow) ≡ true
-  unfolding rulesHold
-  row-rule =
-      let p₁ = and-both (distinctIds (l .rows)) _ e in
-      let p₂ = and-both (allFrom 0 (rowFits (l .version .major) (l .owners)) (l .rows)) _ (p₁ .1) in
-      row-fits-at (l .version .major) (l .owners) (l .rows) i (p₂ .0) b
+  abbrev map : List ℕ
+  map = s .link .owners
 
-  row-blocks : blocksFit (l .owners) i (getD (l .rows) i noRow) ≡ true
-  unfolding rowFits
-  row-blocks = and-both (blocksFit (l .owners) i (getD (l .rows) i noRow)) _ row-rule .0
+  -- the other sessions' room
+  abbrev room : ℕ
+  room = sharesIn (s .link .rows) - shareOf (getD (s .link .rows) n noRow)
 
-  shares-fit : sharesIn (l .rows) - shareOf (getD (l .rows) i noRow) + shareOf (getD (l .rows) i noRow) ≤ 256
-  unfolding rulesHold
-  shares-fit =
-      let p₁ = and-both (distinctIds (l .rows)) _ e in
-      let p₂ = and-both (allFrom 0 (rowFits (l .version .major) (l .owners)) (l .rows)) _ (p₁ .1) in
-      let p₃ = and-both (leb (sharesIn (l .rows)) 256) (eqb (heldByAll 1 40 (l .owners) + freeIn (l .owners)) 256) (p₂ .1) in
-      let w : sharesIn (l .rows) ≤ 256 = leb-true (sharesIn (l .rows)) 256 (p₃ .0) in
-      omega (arith, share-below (l .rows) i b)
+  rules : Rules (s .link)
+  rules = rules-say (s .link) (k .rules)
 
-  need-free : (need : ℕ) (after : Row)
-      → RowKept (l .version .major) (sharesIn (l .rows) - shareOf (getD (l .rows) i noRow)) (placeOf (h .service .0)) (getD (l .rows) i noRow) after 0 need → need ≤ freeIn (l .owners)
-  unfolding rulesHold
-  need-free need after k =
-      let p₁ = and-both (distinctIds (l .rows)) _ e in
-      let p₂ = and-both (allFrom 0 (rowFits (l .version .major) (l .owners)) (l .rows)) _ (p₁ .1) in
-      let p₃ = and-both (leb (sharesIn (l .rows)) 256) (eqb (heldByAll 1 40 (l .owners) + freeIn (l .owners)) 256) (p₂ .1) in
-      let total : heldByAll 1 40 (l .owners) + freeIn (l .owners) ≡ 256 = eqb-true (heldByAll 1 40 (l .owners) + freeIn (l .owners)) 256 (p₃ .1) in
-      let w = k .shares shares-fit in
-      let q = k .held in
-      let s = k .same-guarantee in
-      claim-free (l .version .major) (l .owners) (l .rows) i need eight five b (p₂ .0) total (omega arith)
+  put-sane : (after : Row) (owners pool : List ℕ) → length pool ≡ length (s .pool) → Put s n after owners
+      → Sane (record { link = withOwners (withRow (s .link) n after) owners; pool = pool })
+  put-sane after owners pool e x =
+      let rs : List Row = s .link .rows in
+      let len : length (set rs n after) ≡ length rs = length-set rs n after in
+      let five : FiveEach (set rs n after) = five-set rs n after (k .five) (x .five) in
+      let rows : allFrom 0 (rowFits major owners) (set rs n after) ≡ true
+      = rows-set major map owners rs n after (f .below) (x .fits)
+      (λ j h d. row-elsewhere major map owners j (getD rs j noRow) (five-at rs j (k .five) h) (x .others j d)) (rules .rows) in
+      let was : heldByAll 1 40 map ≡ heldsIn rs = forty major map rs (k .rows) (k .five) (rules .rows) in
+      let is : heldByAll 1 40 owners ≡ heldsIn (set rs n after) = forty major owners (set rs n after) (len ∙ k .rows) five rows in
+      record {
+        rows = len ∙ k .rows;
+        five = five;
+        owners = x .size ∙ k .owners;
+        pool = e ∙ k .pool;
+        settings = k .settings;
+        rules = say-rules (withOwners (withRow (s .link) n after) owners) (record {
+          ids = distinct-set rs n after (λ z j h d w. d (distinct-one rs j n (rules .ids) h (f .below) (w ∙ x .ids z) (λ y. z (sym w ∙ y)))) (rules .ids);
+          rows = rows;
+          shares = omega (arith, shares-set rs n after (f .below), share-below rs n (f .below), x .shares);
+          blocks = omega (arith, helds-set rs n after (f .below), x .spare, rules .blocks);
+        });
+      }
 
-  moves : (act : Act) (owners′ : List ℕ) → Here act → OwnersMoved i (l .owners) owners′ (getD (l .rows) i noRow) (rowAfter (getD (l .rows) i noRow) h (g .hash) act)
-      → rulesHold (withOwners (withRow l i (rowAfter (getD (l .rows) i noRow) h (g .hash) act)) owners′) ≡ true
-  moves act owners′ o m = rules-after l i h (g .hash) act owners′ eight five b n e o m
+  -- a row that stays open, with a map in which the place's owner lost and got what the row did, and no other owner anything
+  put-kept : {place : ℕ} {after : Row} {freed got : ℕ} (owners : List ℕ) → place < 5 → RowKept major room place r after freed got → length owners ≡ length map
+      → ((j q : ℕ) → q < 5 → ((j ≡ n) × (q ≡ place) → ⊥) → heldBy (ownerOf j q) owners ≡ heldBy (ownerOf j q) map)
+      → heldBy (ownerOf n place) owners + freed ≡ heldBy (ownerOf n place) map + got → freeIn owners + got ≡ freeIn map + freed → Put s n after owners
+  put-kept {place} {after} owners below x e apart here spare =
+      let same : after .id .0 ≡ r .id .0 = ap (λ (a : SessionId). a .0) (x .same-id) in
+      record {
+        size = e;
+        fits = facts-fit major n owners after (x .facts) (λ z. f .some-id (sym (f .mine) ∙ sym same ∙ z)) (say-blocks owners n after (λ q h.
+            same-or-not q place
+            (λ z. rw z (omega (arith, x .here, f .room place below)))
+            (λ d. let b : q < 5 = omega (arith, x .facts .five) in apart n q b (λ z. d (z .1)) ∙ f .room q b ∙ sym (ap heldFor (x .elsewhere q d)))));
+        five = x .facts .five;
+        ids = λ _. same;
+        shares = x .shares (omega (arith, rules .shares, share-below (s .link .rows) n (f .below)));
+        others = λ j d q h. apart j q h (λ z. d (z .0));
+        spare = omega (arith, x .held);
+      }
 
-  moved-same : (after : Row) → RowKept (l .version .major) (sharesIn (l .rows) - shareOf (getD (l .rows) i noRow)) (placeOf (h .service .0)) (getD (l .rows) i noRow) after 0 0
-      → OwnersMoved i (l .owners) (l .owners) (getD (l .rows) i noRow) after
-  moved-same after k =
-      moved-not (l .version .major) (sharesIn (l .rows) - shareOf (getD (l .rows) i noRow)) i (placeOf (h .service .0)) (getD (l .rows) i noRow) after (l .owners)
-      (place-below (h .service .0)) (five-at (l .rows) i five b) row-blocks k
+  -- nothing freed, nothing claimed
+  put-same : {place : ℕ} {after : Row} → place < 5 → RowKept major room place r after 0 0 → Put s n after map
+  put-same below x = put-kept map below x refl (λ j q h d. refl) refl refl
 
-  moved-drop : (after : Row)
-      → RowKept (l .version .major) (sharesIn (l .rows) - shareOf (getD (l .rows) i noRow)) (placeOf (h .service .0)) (getD (l .rows) i noRow) after (heldFor (messageAt (getD (l .rows) i noRow) (placeOf (h .service .0)))) 0
-      → OwnersMoved i (l .owners) (released (ownerOf i (placeOf (h .service .0))) (ownerOf i (placeOf (h .service .0))) (l .owners)) (getD (l .rows) i noRow) after
-  moved-drop after k =
-      moved-free (l .version .major) (sharesIn (l .rows) - shareOf (getD (l .rows) i noRow)) i (placeOf (h .service .0)) (getD (l .rows) i noRow) after (l .owners)
-      (place-below (h .service .0)) (five-at (l .rows) i five b) row-blocks (heldFor (messageAt (getD (l .rows) i noRow) (placeOf (h .service .0)))) refl k
+  -- the message's blocks freed
+  put-freed : {place : ℕ} {after : Row} → place < 5 → RowKept major room place r after (heldFor (messageAt r place)) 0
+      → Put s n after (released (ownerOf n place) (ownerOf n place) map)
+  put-freed {place} below x =
+      let o : ℕ = ownerOf n place in
+      put-kept (released o o map) below x (release-length o o map)
+      (λ j q h d. release-leaves o o (ownerOf j q) map (owner-some j q) (λ a b. owner-apart n j place q below h d (omega arith)))
+      (omega (arith, release-takes o o o map (owner-some n place) (omega arith) (omega arith), f .room place below))
+      (omega (arith, release-one o map (owner-some n place), f .room place below))
 
-  pub applied-rules : (act : Act) → Here act → rulesHold (applied l i p out h consumed payload g act .link) ≡ true
-  applied-rules (Refuse m) o = e
-  applied-rules (Drop m) o = moves (Drop m) _ o (moved-drop _ (o .stays refl))
-  applied-rules Accept o = e
-  applied-rules Beat o = e
-  applied-rules Start o = moves Start (l .owners) o (moved-same _ (o .stays refl))
-  applied-rules NoStart o = e
-  applied-rules Stop o = moves Stop _ o (moved-drop _ (o .stays refl))
-  applied-rules Close o = moves Close _ o (moved-close (l .version .major) i (getD (l .rows) i noRow) (l .owners) (five-at (l .rows) i five b) row-rule)
-  applied-rules (NoEnd named) o = e
-  applied-rules (Claim total count) o =
-      moves (Claim total count) _ o
-      (moved-claim (l .version .major) (sharesIn (l .rows) - shareOf (getD (l .rows) i noRow)) i (placeOf (h .service .0)) (getD (l .rows) i noRow) _ (l .owners)
-      (place-below (h .service .0)) (five-at (l .rows) i five b) row-blocks (needOf total) (need-free (needOf total) _ (o .stays refl)) (o .stays refl))
-  applied-rules Append o = moves Append (l .owners) o (moved-same _ (o .stays refl))
-  applied-rules Deliver o = moves Deliver _ o (moved-drop _ (o .stays refl))
-  applied-rules Single o = moves Single (l .owners) o (moved-same _ (o .stays refl))
+  -- blocks claimed, where the room check passed: so many are free
+  put-claimed : {place : ℕ} {after : Row} (need : ℕ) → place < 5 → room + max (heldOf r + need) (r .guarantee) ≤ 256 → RowKept major room place r after 0 need
+      → Put s n after (claimed (ownerOf n place) need map)
+  put-claimed {place} need below w x =
+      let o : ℕ = ownerOf n place in
+      let all : heldByAll 1 40 map ≡ heldsIn (s .link .rows) = forty major map (s .link .rows) (k .rows) (k .five) (rules .rows) in
+      let free : need ≤ freeIn map = omega (arith, helds-less (s .link .rows) n (f .below), share-below (s .link .rows) n (f .below), rules .blocks) in
+      put-kept (claimed o need map) below x (claim-length o need map)
+      (λ j q h d. claim-leaves (ownerOf j q) o need map (owner-apart n j place q below h d) (owner-some j q))
+      (omega (arith, claim-gives o need map (owner-some n place))) (omega (arith, claim-lowers o need map (owner-some n place)))
 
-  -- what the decision on a frame makes of the row
-  pub decided : (room : ℕ) → Sound h → Here (decisionOf l i h payload room)
-  unfolding rowFits
-  decided room s =
-      let r : Row = getD (l .rows) i noRow in
-      let major : ℕ = l .version .major in
-      let q : pick (eqb (r .id .0) 0) (freeFits r) (roomFits r && (versionAllowed major (r .version) && (unsettledFits r && allFrom 0 (messageFits r) (r .messages)))) ≡ true
-      = and-both (blocksFit (l .owners) i r) _ row-rule .1 in
-      let q₀ : roomFits r && (versionAllowed major (r .version) && (unsettledFits r && allFrom 0 (messageFits r) (r .messages))) ≡ true = rw (ne-eqb (r .id .0) 0 n) at q in
-      let q₁ = and-both (roomFits r) _ q₀ in
-      let q₂ = and-both (versionAllowed major (r .version)) _ (q₁ .1) in
-      let q₃ = and-both (unsettledFits r) (allFrom 0 (messageFits r) (r .messages)) (q₂ .1) in
-      let f : RowFacts major r = facts-of major r (five-at (l .rows) i five b) (record { room = q₁ .0; version = q₂ .0; unsettled = q₃ .0; messages = q₃ .1 }) in
-      decision-kept l i h payload room (g .hash) f s
+  -- the session closed: all its blocks freed
+  put-closed : Put s n freeRow (released (ownerOf n 0) (ownerOf n 4) map)
+  unfolding rowFits freeFits
+  put-closed =
+      let low : ℕ = ownerOf n 0 in
+      let high : ℕ = ownerOf n 4 in
+      let some : low ≡ 0 → ⊥ = owner-some n 0 in
+      let raise : freeIn (released low high map) ≡ freeIn map + heldByAll low (suc high - low) map = release-raises low high map (omega arith) in
+      let gain : freeIn (released low high map) ≡ freeIn map + heldByAll low 5 map = rw (owner-inside n 0 (omega arith) .2) at raise in
+      let sum : heldByAll low 5 map ≡ heldOf r = row-owned map n r (f .five) (say-blocks map n r (λ q h. f .room q (omega (arith, f .five)))) in
+      record {
+        size = release-length low high map;
+        fits = and-yes (blocksFit (released low high map) n freeRow) _ (say-blocks (released low high map) n freeRow (λ q h.
+            release-takes low high (ownerOf n q) map (owner-some n q) (owner-inside n q h .0) (owner-inside n q h .1)
+            ∙ sym (ap heldFor (getD-replicate 5 q noReassembly noReassembly h) ∙ held-idle noReassembly refl))) refl;
+        five = refl;
+        ids = λ z. absurd (z refl);
+        shares = omega (arith, free-held, rules .shares);
+        others = λ j d q h. release-leaves low high (ownerOf j q) map (owner-some j q) (owner-outside n j q h d);
+        spare = omega (arith, free-held);
+      }
 
-  -- and so the rules hold after it
-  pub session-rules : (room : ℕ) → Sound h → rulesHold (applied l i p out h consumed payload g (decisionOf l i h payload room) .link) ≡ true
-  session-rules room s = applied-rules (decisionOf l i h payload room) (decided room s)
+  -- a frame in the session leads to a state within the rules
+  module _ (h : Header) (consumed : ℕ) (payload out : List ℕ) (g : Grant) (sound : Sound h) where
+    abbrev place : ℕ
+    place = placeOf (h .service .0)
 
-  -- the arrays keep their lengths, the settings stay
-  abbrev Keeps : Link → List ℕ → Type 0
-  Keeps after pool = Arrays l p after pool
+    abbrev SaneAfter : Act → Type 0
+    SaneAfter act = let w : After = applied (s .link) n (s .pool) out h consumed payload g act in Sane (record { link = w .link; pool = w .pool })
 
-  arrays-same : Keeps l p
-  arrays-same = record { rows = refl; five = five; owners = refl; pool = refl; version = refl; mtu = refl }
+    -- the frame's version, which settles the row's
+    least : 1 ≤ h .version
+    least = version-range (h .version) (sound .version) .0
 
-  arrays-moved : (act : Act) (owners′ pool′ : List ℕ) → Here act → length owners′ ≡ length (l .owners) → length pool′ ≡ length p
-      → Keeps (withOwners (withRow l i (rowAfter (getD (l .rows) i noRow) h (g .hash) act)) owners′) pool′
-  arrays-moved act owners′ pool′ o a c = record {
-    rows = length-set (l .rows) i (rowAfter (getD (l .rows) i noRow) h (g .hash) act);
-    five = five-set (l .rows) i (rowAfter (getD (l .rows) i noRow) h (g .hash) act) five
-        (after-five (l .version .major) (sharesIn (l .rows) - shareOf (getD (l .rows) i noRow)) (getD (l .rows) i noRow) h (g .hash) act o);
-    owners = a;
-    pool = c;
-    version = refl;
-    mtu = refl;
-  }
-
-  pub applied-arrays : (act : Act) → Here act → Keeps (applied l i p out h consumed payload g act .link) (applied l i p out h consumed payload g act .pool)
-  applied-arrays (Refuse m) o = arrays-same
-  applied-arrays (Drop m) o = arrays-moved (Drop m) _ p o (release-length _ _ (l .owners)) refl
-  applied-arrays Accept o = arrays-same
-  applied-arrays Beat o = arrays-same
-  applied-arrays Start o = arrays-moved Start (l .owners) p o refl refl
-  applied-arrays NoStart o = arrays-same
-  applied-arrays Stop o = arrays-moved Stop _ p o (release-length _ _ (l .owners)) refl
-  applied-arrays Close o = arrays-moved Close _ p o (release-length _ _ (l .owners)) refl
-  applied-arrays (NoEnd named) o = arrays-same
-  applied-arrays (Claim total count) o = arrays-moved (Claim total count) _ p o (claim-length _ _ (l .owners)) refl
-  applied-arrays Append o = arrays-moved Append (l .owners) _ o refl (append-length _ _ payload (l .owners) p)
-  applied-arrays Deliver o = arrays-moved Deliver _ _ o (release-length _ _ (l .owners)) (append-length _ _ payload (l .owners) p)
-  applied-arrays Single o = arrays-moved Single (l .owners) p o refl refl
-
--- a frame in an open session leads from a state within the rules to another one
-pub session-sane : (l : Link) (i : ℕ) (p out : List ℕ) (h : Header) (consumed : ℕ) (payload : List ℕ) (g : Grant) (room : ℕ) → Sane (record { link = l; pool = p })
-    → i < length (l .rows) → (getD (l .rows) i noRow .id .0 ≡ 0 → ⊥) → Sound h
-    → (let a : After = applied l i p out h consumed payload g (decisionOf l i h payload room) in Sane (record { link = a .link; pool = a .pool }))
-session-sane l i p out h consumed payload g room k b n s =
-    let o = decided l i p out h consumed payload g (k .rows) (k .five) b n (k .rules) room s in
-    let a = applied-arrays l i p out h consumed payload g (k .rows) (k .five) b n (k .rules) (decisionOf l i h payload room) o in
-    record {
-      rows = a .rows ∙ k .rows;
-      five = a .five;
-      owners = a .owners ∙ k .owners;
-      pool = a .pool ∙ k .pool;
-      settings = rw (a .version, a .mtu) (k .settings);
-      rules = session-rules l i p out h consumed payload g (k .rows) (k .five) b n (k .rules) room s;
-    }
+    pub session-sane : {ask : Ask} {act : Act} → Decided (s .link) n h payload ask act → SaneAfter act
+    session-sane (refuses b) = k
+    session-sane accepts = k
+    session-sane beats = k
+    session-sane starts = put-sane _ _ _ refl (put-same (place-below (h .service .0)) (kept-start major room place r (h .service) (g .hash) (f .facts)))
+    session-sane starts-not = k
+    session-sane (stops d) = put-sane _ _ _ refl (put-freed (place-below (h .service .0)) (kept-stop major room r (h .service) (f .facts)))
+    session-sane (closes d) = put-sane _ _ _ refl put-closed
+    session-sane ends-not = k
+    session-sane (hands-over q) =
+        put-sane _ _ _ refl (put-same (place-below (h .service .0))
+        (kept-single major room place r (h .version) (f .facts) (fits-allowed major r (h .version) (f .facts .allowed) (q .version)) least (fits-settled major r (h .version) (q .version))))
+    session-sane (claims {total} {count} q d fit idle cap w) =
+        put-sane _ _ _ refl (put-claimed (needOf total) (place-below (h .service .0)) w
+        (kept-claim major room place (place-below (h .service .0)) r (h .version) (h .message) total count (f .facts)
+        (fits-allowed major r (h .version) (f .facts .allowed) (q .version)) least (fits-settled major r (h .version) (q .version))
+        (ap (isRunning r (h .version)) (service-place (h .service) (sound .service)) ∙ runs-in r h d (q .service)) fit idle cap w))
+    session-sane (drops d c) = put-sane _ _ _ refl (put-freed (place-below (h .service .0)) (kept-drop major room place (place-below (h .service .0)) r (f .facts)))
+    session-sane (appends c sizes more) =
+        put-sane _ _ _ (append-length _ _ payload map (s .pool)) (put-same (place-below (h .service .0))
+        (kept-fed major room place (place-below (h .service .0)) r (h .size) (f .facts) sizes more))
+    session-sane (delivers c sizes one) =
+        put-sane _ _ _ (append-length _ _ payload map (s .pool)) (put-freed (place-below (h .service .0))
+        (kept-drop major room place (place-below (h .service .0)) r (f .facts)))
