@@ -30,11 +30,11 @@ inside-needed k n =
     (λ h. lt-ltb k ((n + 255) / 256) (omega arith) ∙ sym (lt-ltb (blockSize * k) n h))
 
 -- what code's test shows
-pub starts : (k n : ℕ) (t : Bool) → t ≡ ltb (blockSize * k) n → t ≡ true → blockSize * k < n
-starts k n t e f = ltb-true (blockSize * k) n (sym e ∙ f)
+pub starts : (k n : ℕ) {t : Bool} → t ≡ ltb (blockSize * k) n → t ≡ true → blockSize * k < n
+starts k n e f = ltb-true (blockSize * k) n (sym e ∙ f)
 
-pub ends : (k n : ℕ) (t : Bool) → t ≡ ltb (blockSize * k) n → t ≡ false → n ≤ blockSize * k
-ends k n t e f = ltb-false (blockSize * k) n (sym e ∙ f)
+pub ends : (k n : ℕ) {t : Bool} → t ≡ ltb (blockSize * k) n → t ≡ false → n ≤ blockSize * k
+ends k n e f = ltb-false (blockSize * k) n (sym e ∙ f)
 
 -- the bytes behind a block that may be the last, and cut short
 pub behind-short : (pool : List ℕ) (start size : ℕ) → size ≡ min blockSize (length pool - start) → drop (start + size) pool ≡ drop blockSize (drop start pool)
@@ -59,8 +59,8 @@ pub block-length : (pool : List ℕ) (start size : ℕ) → size ≡ min blockSi
 block-length pool start size e = length-take blockSize (drop start pool) ∙ omega (arith, length-drop start pool)
 
 -- some of what is due lies in a block that starts inside the pool: the bytes still due fall
-pub due-falls : (due n size start bytes : ℕ) → (due ≡ 0 → ⊥) → start < bytes → size ≡ min blockSize (bytes - start) → n ≡ min size due → due - n < due
-due-falls due n size start bytes h inside sized least = omega arith
+pub due-falls : {due n size start bytes : ℕ} → (due ≡ 0 → ⊥) → start < bytes → size ≡ min blockSize (bytes - start) → n ≡ min size due → due - n < due
+due-falls h inside sized least = omega arith
 
 -- ---- putting bytes over others, in the parts that code lends
 
@@ -338,7 +338,7 @@ module _ (owner due : ℕ) (map pool out : List ℕ) where
   unfolding delivered
   deliver-nothing e = rw e (sym (over-nothing 0 out))
 
-  module _ (k : ℕ) (is : k ≡ placeOf owner 0 map) where
+  module _ {k : ℕ} (is : k ≡ placeOf owner 0 map) where
     -- the owner has no block
     pub deliver-no-block : length map ≤ k → out ≡ delivered owner due map pool out
     unfolding delivered blockBytes
@@ -353,7 +353,7 @@ module _ (owner due : ℕ) (map pool out : List ℕ) where
         let none : blockBytes owner map pool ≡ [] = bytes-skip owner k map pool is ∙ rw (drop-of-length-le pool {i = blockSize * k} h) (bytes-none owner (drop k map)) in
         rw (none, take-nil due) (sym (over-nothing 0 out))
 
-    module _ (below : k < length map) (start size n : ℕ) (begins : start ≡ blockSize * k) (sized : size ≡ min blockSize (length pool - start)) (least : n ≡ min size due) (o : List ℕ)
+    module _ (below : k < length map) {start size n : ℕ} (begins : start ≡ blockSize * k) (sized : size ≡ min blockSize (length pool - start)) (least : n ≡ min size due) {o : List ℕ}
         (put : o ≡ over 0 (take (start + n - start) (drop start pool)) out) where
       rest : List ℕ
       rest = blockBytes owner (drop (suc k) map) (drop blockSize (drop start pool))
@@ -387,11 +387,11 @@ module _ (owner due : ℕ) (map pool out : List ℕ) where
           sym (whole ∙ rw (drop-of-length-le out {i = n} none, take-all n o h) (append-nil o))
 
       -- the rest went to what is behind in out
-      pub deliver-more : (q : List ℕ)
+      pub deliver-more : {q : List ℕ}
           → q ≡ delivered owner (due - n) (take (length map - (k + 1)) (drop (k + 1) map)) (take (length pool - (start + size)) (drop (start + size) pool)) (take (length o - n) (drop n o))
           → putMid n (length o - n) o q ≡ delivered owner due map pool out
       unfolding delivered rest
-      deliver-more q e =
+      deliver-more {q} e =
           let w : 0 + length (take n (drop start pool)) ≡ n = omega (arith, share-length) in
           let far : drop n o ≡ drop n out = ap (drop n) put-share ∙ rw w at (over-behind 0 (take n (drop start pool)) out) in
           let none : drop (length o - n) (drop n o) ≡ [] = drop-of-length-le (drop n o) {i = length o - n} (omega (arith, length-drop n o)) in

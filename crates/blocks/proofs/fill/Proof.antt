@@ -46,16 +46,16 @@ starts-inside-requires : tie.Need-starts-inside-requires Inv-loop μ-loop
 starts-inside-requires c κs = search needs
 
 mul-start : tie.Need-mul-start Inv-loop μ-loop
-mul-start c = let l = (c .before .before .before .before .before .before .loop) in omega (arith, starts (l .b + (c .before .before .before .scan .result)) (length (l .pool)) (c .before .starts-inside .result) (c .before .starts-inside .ensures) (c .if2 .taken))
+mul-start c = let l = (c .before .before .before .before .before .before .loop) in omega (arith, starts (l .b + (c .before .before .before .scan .result)) (length (l .pool)) (c .before .starts-inside .ensures) (c .if2 .taken))
 
 sub-least : tie.Need-sub-least Inv-loop μ-loop
-sub-least c = let l = (c .before .before .before .before .before .before .loop) in omega (arith, starts (l .b + (c .before .before .before .scan .result)) (length (l .pool)) (c .before .starts-inside .result) (c .before .starts-inside .ensures) (c .if2 .taken))
+sub-least c = let l = (c .before .before .before .before .before .before .loop) in omega (arith, starts (l .b + (c .before .before .before .scan .result)) (length (l .pool)) (c .before .starts-inside .ensures) (c .if2 .taken))
 
 least-requires : tie.Need-least-requires Inv-loop μ-loop
 least-requires c κs = search needs
 
 add-end : tie.Need-add-end Inv-loop μ-loop
-add-end c = let l = (c .before .before .before .before .before .before .before .loop) in omega (arith, starts (l .b + (c .before .before .before .before .scan .result)) (length (l .pool)) (c .before .before .starts-inside .result) (c .before .before .starts-inside .ensures) (c .before .if2 .taken))
+add-end c = let l = (c .before .before .before .before .before .before .before .loop) in omega (arith, starts (l .b + (c .before .before .before .before .scan .result)) (length (l .pool)) (c .before .before .starts-inside .ensures) (c .before .if2 .taken))
 
 sub-overwrite : tie.Need-sub-overwrite Inv-loop μ-loop
 sub-overwrite c = search needs
@@ -73,7 +73,7 @@ part-overwrite-start-2 : tie.Need-part-overwrite-start-2 Inv-loop μ-loop
 part-overwrite-start-2 c = search needs
 
 part-overwrite-end-2 : tie.Need-part-overwrite-end-2 Inv-loop μ-loop
-part-overwrite-end-2 c = let l = (c .before .before .before .before .before .before .before .before .loop) in omega (arith, starts (l .b + (c .before .before .before .before .before .scan .result)) (length (l .pool)) (c .before .before .before .starts-inside .result) (c .before .before .before .starts-inside .ensures) (c .before .before .if2 .taken))
+part-overwrite-end-2 c = let l = (c .before .before .before .before .before .before .before .before .loop) in omega (arith, starts (l .b + (c .before .before .before .before .before .scan .result)) (length (l .pool)) (c .before .before .before .starts-inside .ensures) (c .before .before .if2 .taken))
 
 overwrite-requires : tie.Need-overwrite-requires Inv-loop μ-loop
 overwrite-requires c κs = search needs
@@ -101,7 +101,7 @@ loop-again c =
     let l = (c .before .before .before .before .before .before .before .before .before .before .before .before .before .loop) in
     let a = (c .before .before .before .before .before .before .before .before .before .before .before .before .before .before .before .before .before .args) in
     let k = l .b + (c .before .before .before .before .before .before .before .before .before .before .scan .result) in
-    let h = starts k (length (l .pool)) (c .before .before .before .before .before .before .before .before .starts-inside .result) (c .before .before .before .before .before .before .before .before .starts-inside .ensures) (c .before .before .before .before .before .before .before .if2 .taken) in (
+    let h = starts k (length (l .pool)) (c .before .before .before .before .before .before .before .before .starts-inside .ensures) (c .before .before .before .before .before .before .before .if2 .taken) in (
       omega arith,
       omega arith,
       omega (arith, (c .least2 .ensures)),
@@ -113,7 +113,7 @@ same-length-2 : tie.Need-same-length-2 Inv-loop μ-loop
 same-length-2 c = search needs
 
 returns-2 : tie.Need-returns-2 Inv-loop μ-loop
-returns-2 c = let l = (c .before .before .before .before .before .before .loop) in let a = (c .before .before .before .before .before .before .before .before .before .before .args) in from-no-pool (a .owner) (l .b) (l .place) (drop (l .done) (a .payload .now)) (a .map .now) (l .pool) (l .b + (c .before .before .before .scan .result)) (next-block (a .owner) (a .map .now) (l .b) (c .before .before .before .scan .result) (c .before .before .before .scan .ensures)) (ends (l .b + (c .before .before .before .scan .result)) (length (l .pool)) (c .before .starts-inside .result) (c .before .starts-inside .ensures) (c .if2 .left)) ∙ l .inv .4
+returns-2 c = let l = (c .before .before .before .before .before .before .loop) in let a = (c .before .before .before .before .before .before .before .before .before .before .args) in from-no-pool (a .owner) (l .b) (l .place) (drop (l .done) (a .payload .now)) (a .map .now) (l .pool) (l .b + (c .before .before .before .scan .result)) (next-block (a .owner) (a .map .now) (l .b) (c .before .before .before .scan .result) (c .before .before .before .scan .ensures)) (ends (l .b + (c .before .before .before .scan .result)) (length (l .pool)) (c .before .starts-inside .ensures) (c .if2 .left)) ∙ l .inv .4
 
 same-length-3 : tie.Need-same-length-3 Inv-loop μ-loop
 same-length-3 c = search needs
