@@ -11,12 +11,12 @@ use lib.Dec.{ltb}
 use lib.ListN.{length, take, drop, getD, length-append, length-take, length-drop, drop-of-length-le, take-append-drop}
 use lib.Seq.{take-nil, drop-nil, take-all, take-take, take-add, take-at, drop-at, drop-drop, drop-cons, length-take-le, take-append-le, take-append-add}
 use borrow.Author.Tests.{lt-ltb, le-ltb, ltb-true, ltb-false}
-use borrow.Rule.Slice.PartMut.{putMid}
+use borrow.Rule.Slice.PartMut.{putMid, same-len-mid}
 use Rattle.blocks.specs.Map.{blockSize, neededFor, heldBy, placeOf}
 use Rattle.blocks.specs.Pool.{appendedFrom, blockBytes, over, appended, delivered}
 use Rattle.blocks.proofs.Over.{compare, over-length, over-past, over-nothing, over-behind, over-adds, over-parts, over-front, over-append, over-pieces}
 use Rattle.blocks.proofs.Counts.{place-here, place-later, place-not, place-cases, place-owner}
-use Rattle.blocks.proofs.Contents.{bytes-mine, bytes-not, bytes-none, bytes-length, append-mine, append-not, append-length, nil-of}
+use Rattle.blocks.proofs.Contents.{bytes-mine, bytes-not, bytes-none, bytes-length, append-mine, append-not, append-length, deliver-length, nil-of}
 use Rattle.blocks.proofs.Turns.{part-behind, rest-place}
 
 -- ---- parts
@@ -436,79 +436,110 @@ over-full s l e =
     let h : length l ≤ length s = omega arith in
     over-front s l (omega arith) ∙ rw (drop-of-length-le l {i = length s} h) (append-nil s)
 
--- a turn: the blocks among w entries
-module _ (owner from done most w n here : ℕ) (map pool out r : List ℕ) (inside : from + w ≤ length map) (there : blockSize * (from + w) ≤ length pool) (fits : most ≤ length out) (so-far : done ≤ most)
-    (held : here ≡ heldBy owner (take (from + w - from) (drop from map))) (least : n ≡ min (blockSize * here) (most - done))
-    (put : r ≡ delivered owner n (take (from + w - from) (drop from map)) (take (length pool - blockSize * from) (drop (blockSize * from) pool)) (take (done + n - done) (drop done out))) where
-  few : List ℕ
-  few = take w (drop from map)
+-- between two turns: of the map's first `whole` entries the pool has the blocks, and what stands in out, with what is due of the entries left, is the whole delivery
+pub record Delivering (owner due : ℕ) (map pool before : List ℕ) (most whole : ℕ) (out : List ℕ) (from done : ℕ) : Type 0 where
+  pub passed : from ≤ whole
+  pub entries : whole ≤ length map
+  pub blocks : blockSize * whole ≤ length pool
+  pub so-far : done ≤ most
+  pub room : most ≤ length out
+  pub size : length out ≡ length before
+  pub rest : take done out ++ delivered owner (most - done) (drop from map) (drop (blockSize * from) pool) (drop done out) ≡ delivered owner due map pool before
 
-  bytes : List ℕ
-  bytes = blockBytes owner few (drop (blockSize * from) pool)
+pub delivering-starts : {owner due most whole : ℕ} {map pool out : List ℕ} → most ≡ min due (length out) → whole ≡ min (length map) (length pool / blockSize)
+    → Delivering owner due map pool out most whole out 0 0
+delivering-starts {owner} {due} {most} {whole} {map} {pool} {out} e f = record {
+  passed = omega arith;
+  entries = omega arith;
+  blocks = omega arith;
+  so-far = omega arith;
+  room = omega arith;
+  size = refl;
+  rest = let z : most - 0 ≡ most = omega arith in rw z (deliver-most owner due most map pool out e);
+}
 
-  few-length : length few ≡ w
-  unfolding few
-  few-length = length-take-le w (drop from map) (omega (arith, length-drop from map))
+module _ {owner due most whole from done : ℕ} {map pool before out : List ℕ} (i : Delivering owner due map pool before most whole out from done) where
+  -- a turn: the blocks among w entries
+  module _ (w : ℕ) (more : w ≤ whole - from) {n here : ℕ} (held : here ≡ heldBy owner (take (from + w - from) (drop from map))) (least : n ≡ min (blockSize * here) (most - done))
+      {r : List ℕ} (put : r ≡ delivered owner n (take (from + w - from) (drop from map)) (take (length pool - blockSize * from) (drop (blockSize * from) pool)) (take (done + n - done) (drop done out))) where
+    few : List ℕ
+    few = take w (drop from map)
 
-  bytes-here : length bytes ≡ blockSize * here
-  unfolding few bytes
-  bytes-here =
-      let z : from + w - from ≡ w = omega arith in
-      bytes-length owner few (drop (blockSize * from) pool) (omega (arith, few-length, length-drop (blockSize * from) pool))
-      ∙ ap (λ (k : ℕ). blockSize * k) (sym (rw z at held))
+    bytes : List ℕ
+    bytes = blockBytes owner few (drop (blockSize * from) pool)
 
-  share-here : length (take n bytes) ≡ n
-  share-here = length-take-le n bytes (omega (arith, bytes-here))
+    few-length : length few ≡ w
+    unfolding few
+    few-length = length-take-le w (drop from map) (omega (arith, length-drop from map))
 
-  got : r ≡ take n bytes
-  unfolding few bytes delivered
-  got =
-      let z : from + w - from ≡ w = omega arith in
-      let y : done + n - done ≡ n = omega arith in
-      let room : length (take n (drop done out)) ≡ n = length-take-le n (drop done out) (omega (arith, length-drop done out)) in
-      put ∙ rw (z, y, part-behind pool (blockSize * from)) (over-full (take n bytes) (take n (drop done out)) (share-here ∙ sym room))
+    bytes-here : length bytes ≡ blockSize * here
+    unfolding few bytes
+    bytes-here =
+        let z : from + w - from ≡ w = omega arith in
+        bytes-length owner few (drop (blockSize * from) pool) (omega (arith, few-length, length-drop (blockSize * from) pool))
+        ∙ ap (λ (k : ℕ). blockSize * k) (sym (rw z at held))
 
-  all-here : delivered owner (most - done) (drop from map) (drop (blockSize * from) pool) (drop done out)
-      ≡ r ++ delivered owner (most - (done + n)) (drop (from + w) map) (drop (blockSize * (from + w)) pool) (drop n (drop done out))
-  unfolding few bytes delivered
-  all-here =
+    share-here : length (take n bytes) ≡ n
+    share-here = length-take-le n bytes (omega (arith, bytes-here))
+
+    got : r ≡ take n bytes
+    unfolding few bytes delivered
+    got =
+        let z : from + w - from ≡ w = omega arith in
+        let y : done + n - done ≡ n = omega arith in
+        let room : length (take n (drop done out)) ≡ n = length-take-le n (drop done out) (omega (arith, length-drop done out)) in
+        put ∙ rw (z, y, part-behind pool (blockSize * from)) (over-full (take n bytes) (take n (drop done out)) (share-here ∙ sym room))
+
+    all-here : delivered owner (most - done) (drop from map) (drop (blockSize * from) pool) (drop done out)
+        ≡ r ++ delivered owner (most - (done + n)) (drop (from + w) map) (drop (blockSize * (from + w)) pool) (drop n (drop done out))
+    unfolding few bytes delivered
+    all-here =
+        let o : List ℕ = drop done out in
+        let later : List ℕ = blockBytes owner (drop (from + w) map) (drop (blockSize * (from + w)) pool) in
+        let m : blockSize * (from + w) ≡ blockSize * from + blockSize * w = omega arith in
+        let both : blockBytes owner (drop from map) (drop (blockSize * from) pool) ≡ bytes ++ later
+        = ap (λ (t : List ℕ). blockBytes owner t (drop (blockSize * from) pool)) (sym (take-append-drop w (drop from map)))
+        ∙ bytes-pieces owner few (drop w (drop from map)) (drop (blockSize * from) pool)
+        ∙ rw (few-length, drop-drop w from map, drop-drop (blockSize * w) (blockSize * from) pool, m) in
+        let left : most - done - n ≡ most - (done + n) = omega arith in
+        let v : 0 + length (take n bytes) ≡ n = omega (arith, share-here) in
+        let near : take n (over 0 (take n bytes) o) ≡ take n bytes = rw v at (over-adds 0 (take n bytes) o (omega (arith, share-here, length-drop done out))) in
+        ap (λ (s : List ℕ). over 0 s o) (ap (take (most - done)) both ∙ take-share (most - done) n bytes later (omega (arith, bytes-here)))
+        ∙ over-pieces (take n bytes) (take (most - done - n) later) o
+        ∙ rw (share-here, near, got, left)
+
+    pub delivering-turn : Delivering owner due map pool before most whole (putMid done (done + n - done) out r) (from + w) (done + n)
+    delivering-turn =
+        let y : done + n - done ≡ n = omega arith in
+        let front : length (take done out) ≡ done = length-take-le done out (omega arith) in
+        let behind : List ℕ = drop n (drop done out) in
+        let length-here : length (take done out ++ r) ≡ done + n = omega (arith, length-append (take done out) r, front, ap length got, share-here) in
+        let after : putMid done (done + n - done) out r ≡ (take done out ++ r) ++ behind = rw y (sym (append-assoc (take done out) r behind)) in
+        let same : length (putMid done (done + n - done) out r) ≡ length out =
+        same-len-mid done (done + n - done) out r (ap length put ∙ deliver-length owner n _ _ (take (done + n - done) (drop done out))) in
+        record {
+          passed = omega arith;
+          entries = i .entries;
+          blocks = i .blocks;
+          so-far = omega arith;
+          room = omega arith;
+          size = same ∙ i .size;
+          rest = rw (after, take-at (take done out ++ r) behind (done + n) length-here, drop-at (take done out ++ r) behind (done + n) length-here, append-assoc, ← all-here) (i .rest);
+        }
+
+  -- the rest, to the part of out that is still due
+  pub delivering-ends : {r : List ℕ}
+      → r ≡ delivered owner (most - done) (take (length map - from) (drop from map)) (take (length pool - blockSize * from) (drop (blockSize * from) pool)) (take (most - done) (drop done out))
+      → putMid done (most - done) out r ≡ delivered owner due map pool before
+  unfolding delivered
+  delivering-ends e =
+      let m : ℕ = most - done in
       let o : List ℕ = drop done out in
-      let later : List ℕ = blockBytes owner (drop (from + w) map) (drop (blockSize * (from + w)) pool) in
-      let m : blockSize * (from + w) ≡ blockSize * from + blockSize * w = omega arith in
-      let both : blockBytes owner (drop from map) (drop (blockSize * from) pool) ≡ bytes ++ later
-      = ap (λ (t : List ℕ). blockBytes owner t (drop (blockSize * from) pool)) (sym (take-append-drop w (drop from map)))
-      ∙ bytes-pieces owner few (drop w (drop from map)) (drop (blockSize * from) pool)
-      ∙ rw (few-length, drop-drop w from map, drop-drop (blockSize * w) (blockSize * from) pool, m) in
-      let left : most - done - n ≡ most - (done + n) = omega arith in
-      let v : 0 + length (take n bytes) ≡ n = omega (arith, share-here) in
-      let near : take n (over 0 (take n bytes) o) ≡ take n bytes = rw v at (over-adds 0 (take n bytes) o (omega (arith, share-here, length-drop done out))) in
-      ap (λ (s : List ℕ). over 0 s o) (ap (take (most - done)) both ∙ take-share (most - done) n bytes later (omega (arith, bytes-here)))
-      ∙ over-pieces (take n bytes) (take (most - done - n) later) o
-      ∙ rw (share-here, near, got, left)
-
-  pub group-delivered : take (done + n) (putMid done (done + n - done) out r)
-      ++ delivered owner (most - (done + n)) (drop (from + w) map) (drop (blockSize * (from + w)) pool) (drop (done + n) (putMid done (done + n - done) out r))
-      ≡ take done out ++ delivered owner (most - done) (drop from map) (drop (blockSize * from) pool) (drop done out)
-  group-delivered =
-      let y : done + n - done ≡ n = omega arith in
-      let front : length (take done out) ≡ done = length-take-le done out (omega arith) in
-      let size : length (take done out ++ r) ≡ done + n = omega (arith, length-append (take done out) r, front, ap length got, share-here) in
-      let whole : putMid done (done + n - done) out r ≡ (take done out ++ r) ++ drop n (drop done out) = rw y (sym (append-assoc (take done out) r (drop n (drop done out)))) in
-      rw (whole, take-at (take done out ++ r) (drop n (drop done out)) (done + n) size, drop-at (take done out ++ r) (drop n (drop done out)) (done + n) size, append-assoc, all-here)
-
--- the rest, to the part of out that is still due
-pub rest-delivered : (owner from done most : ℕ) (map pool out r : List ℕ) → done ≤ most → most ≤ length out
-    → r ≡ delivered owner (most - done) (take (length map - from) (drop from map)) (take (length pool - blockSize * from) (drop (blockSize * from) pool)) (take (most - done) (drop done out))
-    → putMid done (most - done) out r ≡ take done out ++ delivered owner (most - done) (drop from map) (drop (blockSize * from) pool) (drop done out)
-unfolding delivered
-rest-delivered owner from done most map pool out r h g e =
-    let m : ℕ = most - done in
-    let o : List ℕ = drop done out in
-    let s : List ℕ = take m (blockBytes owner (drop from map) (drop (blockSize * from) pool)) in
-    let room : length (take m o) ≡ m = length-take-le m o (omega (arith, length-drop done out)) in
-    let none : drop m s ≡ [] = drop-of-length-le s {i = m} (omega (arith, length-take m (blockBytes owner (drop from map) (drop (blockSize * from) pool)))) in
-    let z : m - 0 ≡ m = omega arith in
-    let w : 0 - m ≡ 0 = omega arith in
-    let cut : over 0 s o ≡ over 0 s (take m o) ++ drop m o
-    = ap (over 0 s) (sym (take-append-drop m o)) ∙ over-append 0 s (take m o) (drop m o) ∙ rw (room, z, w, none, over-nothing 0 (drop m o)) in
-    rw (cut, e, part-behind map from, part-behind pool (blockSize * from))
+      let s : List ℕ = take m (blockBytes owner (drop from map) (drop (blockSize * from) pool)) in
+      let fit : length (take m o) ≡ m = length-take-le m o (omega (arith, length-drop done out)) in
+      let none : drop m s ≡ [] = drop-of-length-le s {i = m} (omega (arith, length-take m (blockBytes owner (drop from map) (drop (blockSize * from) pool)))) in
+      let z : m - 0 ≡ m = omega arith in
+      let w : 0 - m ≡ 0 = omega arith in
+      let cut : over 0 s o ≡ over 0 s (take m o) ++ drop m o
+      = ap (over 0 s) (sym (take-append-drop m o)) ∙ over-append 0 s (take m o) (drop m o) ∙ rw (fit, z, w, none, over-nothing 0 (drop m o)) in
+      rw (e, part-behind map from, part-behind pool (blockSize * from), ← cut) (i .rest)
