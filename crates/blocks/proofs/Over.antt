@@ -1,12 +1,12 @@
 -- Laws of bytes that are put over a list: its length stays, what lies before and behind stays, and a list in two pieces takes them in two.
 -- By induction along the list. Assumes nothing.
 use Prim.Native.Nat.{ℕ, zero, suc, _+_, _-_, _≤_, _<_, min}
-use mathlib.Core.Path.{_≡_, refl, ap, sym}
-use mathlib.Core.List.{List, [], _∷_, _++_}
+use mathlib.Core.Path.{_≡_, refl, ap, sym, _∙_}
+use mathlib.Core.List.{List, [], _∷_, _++_, append-nil}
 use native.Mathlib.Omega.{arith}
 use lib.Dec.{leb}
-use lib.ListN.{length, take, drop}
-use lib.Seq.{drop-nil}
+use lib.ListN.{length, take, drop, drop-of-length-le}
+use lib.Seq.{take-nil, drop-nil}
 use borrow.Author.Tests.{leb-true, leb-false}
 use Rattle.numbers.specs.Bytes.{laid}
 use Rattle.numbers.proofs.Choices.{split}
@@ -116,3 +116,17 @@ unfolding over
 over-pieces [] b l = refl
 over-pieces (y ∷ a) b [] = refl
 over-pieces (y ∷ a) b (x ∷ l) = ap (λ (t : List ℕ). y ∷ t) (over-pieces a b l)
+
+-- more bytes than there is room for
+pub over-cut : (n : ℕ) (s l : List ℕ) → length l ≤ n → over 0 (take n s) l ≡ over 0 s l
+unfolding over
+over-cut n s [] h = refl
+over-cut n [] (x ∷ l) h = rw (take-nil n)
+over-cut zero (y ∷ s) (x ∷ l) h = absurd (omega arith)
+over-cut (suc n) (y ∷ s) (x ∷ l) h = ap (λ (t : List ℕ). y ∷ t) (over-cut n s l (omega arith))
+
+-- bytes that fill a list
+pub over-full : (s l : List ℕ) → length s ≡ length l → over 0 s l ≡ s
+over-full s l e =
+    let h : length l ≤ length s = omega arith in
+    over-front s l (omega arith) ∙ rw (drop-of-length-le l {i = length s} h) (append-nil s)

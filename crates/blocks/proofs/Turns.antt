@@ -9,11 +9,11 @@ use native.Mathlib.Numerals.{add-one}
 use native.Mathlib.Omega.{arith}
 use lib.Dec.{eqb, leb}
 use lib.ListN.{length, take, drop, getD, set, drop-of-length-le, take-append-drop, length-take, length-drop}
-use lib.Seq.{drop-cons, take-suc, take-suc-set, drop-set-lt, append-snoc, take-all, drop-drop}
+use lib.Seq.{drop-cons, take-suc, take-suc-set, drop-set-lt, append-snoc, take-all, drop-drop, getD-drop}
 use Rattle.numbers.specs.Bytes.{pick}
 use Rattle.numbers.proofs.Choices.{split}
 use Rattle.blocks.specs.Map.{free, heldBy, claimed, released, placeOf}
-use Rattle.blocks.proofs.Counts.{held-most, claim-none, claim-taken, claim-held, place-here, place-later, place-not, place-most, place-skip}
+use Rattle.blocks.proofs.Counts.{held-most, claim-none, claim-taken, claim-held, place-here, place-later, place-not, place-most, place-owner, place-skip}
 
 -- a pass over a list at i: the entry is kept, or v is stored there
 pub kept-at : (g : List ℕ → List ℕ) (p : List ℕ) (i : ℕ) → i < length p → take (i + 1) p ++ g (drop (i + 1) p) ≡ take i p ++ (getD p i 0 ∷ g (drop (suc i) p))
@@ -139,3 +139,10 @@ module _ (owner n : ℕ) (map : List ℕ) (i : ℕ) where
   pub find-end : length map ≤ i → placeOf owner n (drop i map) ≡ 0
   unfolding placeOf
   find-end h = rw drop-of-length-le
+
+-- the owner's next block from b on, and the map behind it
+pub next-block : (owner : ℕ) (map : List ℕ) (b k : ℕ) → k ≡ b + placeOf owner 0 (drop b map) → k < length map → drop k map ≡ owner ∷ drop (k + 1) map
+next-block owner map b k is below =
+    let j : ℕ = placeOf owner 0 (drop b map) in
+    let mine : getD map k 0 ≡ owner = rw is (sym (getD-drop b map j 0) ∙ place-owner owner 0 (drop b map) (omega (arith, length-drop b map))) in
+    rw (drop-cons map k 0 below, mine, add-one k)

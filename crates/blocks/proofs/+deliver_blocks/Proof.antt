@@ -4,7 +4,8 @@ use Prim.Native.Nat.{_<_, _*_, ℕ}
 use mathlib.Core.Path.{refl}
 use native.Mathlib.Omega.{arith}
 use lib.ListN.{length}
-use Rattle.blocks.proofs.Steps.{starts, ends, due-falls, deliver-nothing, deliver-no-block, deliver-no-pool, deliver-full, deliver-more}
+use Rattle.blocks.proofs.Parts.{starts, ends}
+use Rattle.blocks.proofs.Deliveries.{due-falls, deliver-nothing, deliver-no-block, deliver-no-pool, deliver-full, deliver-more}
 use borrow.Author.Needs.{needs}
 use borrow.Fn.Kinds.{In}
 use borrow.Fn.PlainCycle.{Measures, is, falls, and}

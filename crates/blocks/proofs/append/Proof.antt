@@ -5,7 +5,7 @@ use mathlib.Core.Path.{_∙_}
 use native.Mathlib.Omega.{arith}
 use Rattle.blocks.specs.Pool.{appendedFrom}
 use Rattle.blocks.proofs.Counts.{place-most}
-use Rattle.blocks.proofs.Steps.{from-found}
+use Rattle.blocks.proofs.Appends.{from-found}
 use borrow.Author.Needs.{needs}
 use Rattle.blocks.proofs.append.Statement.{statement}
 use Rattle.blocks.proofs.append.Tie as tie
@@ -30,7 +30,7 @@ same-length-2 : tie.Need-same-length-2
 same-length-2 c = search needs
 
 returns-2 : tie.Need-returns-2
-returns-2 c = let a = (c .before .before .before .before .before .before .before .before .before .args) in (c .before .before .fill2 .ensures) ∙ from-found (a .owner .0) (a .at) (a .payload .now) (a .map .now) (a .pool .now) ((c .before .before .before .before .find-block .result) .0) (c .before .before .before .before .find-block .ensures)
+returns-2 c = let a = (c .before .before .before .before .before .before .before .before .before .args) in (c .before .before .fill2 .ensures) ∙ from-found (a .owner .0) (a .at) (a .payload .now) (a .map .now) (a .pool .now) (c .before .before .before .before .find-block .ensures)
 
 pub append-spec : {M : Type 1} → statement M
 append-spec =

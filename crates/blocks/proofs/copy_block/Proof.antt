@@ -1,6 +1,6 @@
 -- `blocks::copy_block` meets its contract: two halves are the whole.
 -- Assumes nothing.
-use Rattle.blocks.proofs.Steps.{halves}
+use Rattle.blocks.proofs.Parts.{halves}
 use native.Mathlib.Omega.{arith}
 use borrow.Author.Needs.{needs}
 use Rattle.blocks.proofs.copy_block.Statement.{statement}

@@ -1,6 +1,6 @@
 -- `blocks::copy_short` meets its contract: what went into the array comes out of it.
 -- Assumes nothing.
-use Rattle.blocks.proofs.Steps.{by-way}
+use Rattle.blocks.proofs.Parts.{by-way}
 use borrow.Author.Needs.{needs}
 use Rattle.blocks.proofs.copy_short.Statement.{statement}
 use Rattle.blocks.proofs.copy_short.Tie as tie

@@ -5,7 +5,7 @@ use mathlib.Core.Path.{_∙_}
 use native.Mathlib.Omega.{arith}
 use lib.ListN.{length-take, length-drop}
 use Rattle.blocks.proofs.Turns.{group-most}
-use Rattle.blocks.proofs.Steps.{Delivering, delivering-starts, delivering-turn, delivering-ends}
+use Rattle.blocks.proofs.Deliveries.{Delivering, delivering-starts, delivering-turn, delivering-ends}
 use borrow.Author.Needs.{needs}
 use Rattle.blocks.proofs.deliver.Statement.{statement}
 use Rattle.blocks.proofs.deliver.Tie as tie

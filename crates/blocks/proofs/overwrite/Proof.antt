@@ -2,7 +2,7 @@
 -- Assumes nothing.
 use mathlib.Core.Path.{sym}
 use Rattle.blocks.proofs.Over.{over-past}
-use Rattle.blocks.proofs.Steps.{overwritten}
+use Rattle.blocks.proofs.Parts.{overwritten}
 use borrow.Author.Needs.{needs}
 use Rattle.blocks.proofs.overwrite.Statement.{statement}
 use Rattle.blocks.proofs.overwrite.Tie as tie

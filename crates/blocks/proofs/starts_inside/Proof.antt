@@ -1,6 +1,6 @@
 -- `blocks::starts_inside` meets its contract: a block starts inside exactly if its number is below the blocks that are needed.
 -- Assumes nothing.
-use Rattle.blocks.proofs.Steps.{inside-needed}
+use Rattle.blocks.proofs.Parts.{inside-needed}
 use borrow.Author.Needs.{needs}
 use Rattle.blocks.proofs.starts_inside.Statement.{statement}
 use Rattle.blocks.proofs.starts_inside.Tie as tie
