@@ -16,23 +16,8 @@ Inv-loop entries owner count₀ i₀ count i = (i ≤ length entries) × (count 
 abbrev μ-loop : tie.MeasureT-loop
 μ-loop entries owner count₀ i₀ count i = length entries - i
 
-loop-holds : tie.Need-loop-holds Inv-loop μ-loop
-loop-holds c = search needs
-
-shared-slice-read-one-if-same : tie.Need-shared-slice-read-one-if-same Inv-loop μ-loop
-shared-slice-read-one-if-same c = search needs
-
-one-if-same-requires : tie.Need-one-if-same-requires Inv-loop μ-loop
-one-if-same-requires c κs = search needs
-
 add-count : tie.Need-add-count Inv-loop μ-loop
 add-count c = let l = (c .before .before .before .loop) in let a = (c .before .before .before .before .before .args) in omega (arith, count-one (a .owner) (a .entries .now) (l .i) (c .one-if-same .result) (c .one-if-same .ensures))
-
-add-i : tie.Need-add-i Inv-loop μ-loop
-add-i c = search needs
-
-loop-less : tie.Need-loop-less Inv-loop μ-loop
-loop-less c = search needs
 
 loop-again : tie.Need-loop-again Inv-loop μ-loop
 loop-again c =
@@ -50,11 +35,9 @@ count-group-spec =
     (tie.spec
     Inv-loop
     μ-loop
-    loop-holds
-    shared-slice-read-one-if-same
-    one-if-same-requires
-    add-count
-    add-i
-    loop-less
+    (λ c. search needs)
+    (λ c. search needs) (λ c κs. search needs) add-count  -- count
+    (λ c. search needs)  -- i
+    (λ c. search needs)  -- entries.len() - i falls
     loop-again
     returns)

@@ -7,36 +7,6 @@ use borrow.Author.Needs.{needs}
 use Rattle.blocks.proofs.find_block.Statement.{statement}
 use Rattle.blocks.proofs.find_block.Tie as tie
 
-skip-requires : tie.Need-skip-requires
-skip-requires c κs = search needs
-
-sub-skip : tie.Need-sub-skip
-sub-skip c = search needs
-
-part-skip-start : tie.Need-part-skip-start
-part-skip-start c = search needs
-
-part-skip-end : tie.Need-part-skip-end
-part-skip-end c = search needs
-
-skip-requires-2 : tie.Need-skip-requires-2
-skip-requires-2 c κs = search needs
-
-add-b : tie.Need-add-b
-add-b c = search needs
-
-sub-scan : tie.Need-sub-scan
-sub-scan c = search needs
-
-part-scan-start : tie.Need-part-scan-start
-part-scan-start c = search needs
-
-part-scan-end : tie.Need-part-scan-end
-part-scan-end c = search needs
-
-scan-requires : tie.Need-scan-requires
-scan-requires c κs = search needs
-
 add-found : tie.Need-add-found
 add-found c =
     let a = (c .before .before .before .before .before .before .before .args) in
@@ -55,15 +25,9 @@ pub find-block-spec : {M : Type 1} → statement M
 find-block-spec =
     tie.close
     (tie.spec
-    skip-requires
-    sub-skip
-    part-skip-start
-    part-skip-end
-    skip-requires-2
-    add-b
-    sub-scan
-    part-scan-start
-    part-scan-end
-    scan-requires
-    add-found
+    (λ c κs. search needs)  -- far
+    (λ c. search needs) (λ c. search needs) (λ c. search needs) (λ c κs. search needs)  -- near
+    (λ c. search needs)  -- b
+    (λ c. search needs) (λ c. search needs) (λ c. search needs) (λ c κs. search needs)  -- scan(&map[b..], ..)
+    add-found  -- found
     returns)

@@ -16,35 +16,8 @@ Inv-loop map number count₀ from₀ count from = (from ≤ length map) × (coun
 abbrev μ-loop : tie.MeasureT-loop
 μ-loop map number count₀ from₀ count from = length map - from
 
-loop-holds : tie.Need-loop-holds Inv-loop μ-loop
-loop-holds c = search needs
-
-sub-loop : tie.Need-sub-loop Inv-loop μ-loop
-sub-loop c = search needs
-
-add-end : tie.Need-add-end Inv-loop μ-loop
-add-end c = search needs
-
-sub-count-group : tie.Need-sub-count-group Inv-loop μ-loop
-sub-count-group c = search needs
-
-part-count-group-start : tie.Need-part-count-group-start Inv-loop μ-loop
-part-count-group-start c = search needs
-
-part-count-group-end : tie.Need-part-count-group-end Inv-loop μ-loop
-part-count-group-end c = search needs
-
-count-group-requires : tie.Need-count-group-requires Inv-loop μ-loop
-count-group-requires c κs = simp (length-take, length-drop) (omega arith)
-
-wide-requires : tie.Need-wide-requires Inv-loop μ-loop
-wide-requires c κs = search needs
-
 add-count : tie.Need-add-count Inv-loop μ-loop
 add-count c = let l = (c .before .before .before .before .loop) in let a = (c .before .before .before .before .before .before .args) in omega (arith, group-most (a .owner .0) (a .map .now) (l .from) 64 (c .before .count-group .result) (c .before .count-group .ensures))
-
-loop-less : tie.Need-loop-less Inv-loop μ-loop
-loop-less c = search needs
 
 loop-again : tie.Need-loop-again Inv-loop μ-loop
 loop-again c =
@@ -55,21 +28,6 @@ loop-again c =
       omega (arith, group-most (a .owner .0) (a .map .now) (l .from) 64 (c .before .count-group .result) (c .before .count-group .ensures)),
       omega (arith, group-turn (a .owner .0) (a .map .now) (l .from) 64 (c .before .count-group .result) (c .before .count-group .ensures)),
     )
-
-sub-count-group-2 : tie.Need-sub-count-group-2 Inv-loop μ-loop
-sub-count-group-2 c = search needs
-
-part-count-group-start-2 : tie.Need-part-count-group-start-2 Inv-loop μ-loop
-part-count-group-start-2 c = search needs
-
-part-count-group-end-2 : tie.Need-part-count-group-end-2 Inv-loop μ-loop
-part-count-group-end-2 c = search needs
-
-count-group-requires-2 : tie.Need-count-group-requires-2 Inv-loop μ-loop
-count-group-requires-2 c κs = simp (length-take, length-drop) (omega arith)
-
-wide-requires-2 : tie.Need-wide-requires-2 Inv-loop μ-loop
-wide-requires-2 c κs = search needs
 
 add-result : tie.Need-add-result Inv-loop μ-loop
 add-result c = let l = (c .before .before .before .before .loop) in let a = (c .before .before .before .before .before .before .args) in omega (arith, rest-most (a .owner .0) (a .map .now) (l .from) (c .before .count-group2 .result) (omega arith) (c .before .count-group2 .ensures))
@@ -83,21 +41,14 @@ held-spec =
     (tie.spec
     Inv-loop
     μ-loop
-    loop-holds
-    sub-loop
-    add-end
-    sub-count-group
-    part-count-group-start
-    part-count-group-end
-    count-group-requires
-    wide-requires
-    add-count
-    loop-less
+    (λ c. search needs)
+    (λ c. search needs)  -- map.len() - from
+    (λ c. search needs)  -- end
+    (λ c. search needs) (λ c. search needs) (λ c. search needs)  -- &map[from..end]
+    (λ c κs. simp (length-take, length-drop) (omega arith)) (λ c κs. search needs)  -- wide(count_group(..))
+    add-count  -- count
+    (λ c. search needs)  -- map.len() - from falls
     loop-again
-    sub-count-group-2
-    part-count-group-start-2
-    part-count-group-end-2
-    count-group-requires-2
-    wide-requires-2
-    add-result
+    (λ c. search needs) (λ c. search needs) (λ c. search needs)  -- &map[from..]
+    (λ c κs. simp (length-take, length-drop) (omega arith)) (λ c κs. search needs) add-result  -- the sum
     returns)
