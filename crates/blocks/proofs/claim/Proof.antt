@@ -30,8 +30,8 @@ loop-again c =
     let a = (c .before .before .before .before .args) in
     let h : l .i < length (l .after) = omega arith in
     ⊎-elim
-    (λ w. (omega arith, rw (w .1) (simp length-set (omega arith)), cc (claim-turn (a .owner .0) (l .wanted) (l .after) (l .i) h (w .0 .taken) (omega arith))))
-    (λ w. (omega arith, rw (w .1) (omega arith), cc (claim-pass (a .owner .0) (l .wanted) (l .after) (l .i) h (w .0 .left))))
+    (λ w. (omega arith, rw (w .1) (simp length-set (omega arith)), rw (w .1, w .2) (claim-turn (a .owner .0) (l .wanted) (l .after) (l .i) h (w .0 .taken) (omega arith) ∙ l .inv .2)))
+    (λ w. (omega arith, rw (w .1) (omega arith), rw (w .1, w .2) (claim-pass (a .owner .0) (l .wanted) (l .after) (l .i) h (w .0 .left) ∙ l .inv .2)))
     ((c .if2 .came))
 
 returns-2 : tie.Need-returns-2 Inv-loop μ-loop
