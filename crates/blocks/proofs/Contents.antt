@@ -14,7 +14,7 @@ use Rattle.numbers.proofs.Choices.{split, same-or-not}
 use Rattle.blocks.specs.Map.{blockSize, free, heldBy, claimed, released, numbersFrom, blockNumbers, Outside}
 use Rattle.blocks.specs.Pool.{blockBytes, over, appended, delivered, joined}
 use Rattle.blocks.proofs.Over.{compare, over-length, over-append, over-adds, over-front}
-use Rattle.blocks.proofs.Counts.{held-mine, held-not, claim-taken, claim-enough, claim-held, claim-cases, release-hit, release-below, release-above, release-cases, numbers-mine, numbers-not}
+use Rattle.blocks.proofs.Counts.{held-mine, held-not, claim-cases, release-cases, numbers-mine, numbers-not}
 
 -- ---- worked cases, by computation; a pool of a few bytes is a first block cut short
 
@@ -206,15 +206,12 @@ pub claim-bytes : (other owner n : ℕ) (map pool : List ℕ) → other ≢ owne
 unfolding blockBytes claimed
 claim-bytes other owner n [] pool d z = refl
 claim-bytes other owner n (o ∷ map) pool d z =
-    claim-cases n o
-    (λ e g.
-    ap (λ (m : List ℕ). blockBytes other m pool) (claim-taken owner n o map e g) ∙ bytes-not other owner (claimed owner (n - 1) map) pool (λ w. d (sym w))
+    claim-cases owner n o map
+    (λ e g q.
+    ap (λ (m : List ℕ). blockBytes other m pool) q ∙ bytes-not other owner (claimed owner (n - 1) map) pool (λ w. d (sym w))
     ∙ claim-bytes other owner (n - 1) map (drop blockSize pool) d z ∙ sym (bytes-not other o map pool (λ w. z (sym w ∙ e))))
-    (λ e g.
-    ap (λ (m : List ℕ). blockBytes other m pool) (claim-enough owner n o map g)
-    ∙ ap (λ (b : List ℕ). pick (eqb o other) (take blockSize pool ++ b) b) (claim-bytes other owner n map (drop blockSize pool) d z))
-    (λ e.
-    ap (λ (m : List ℕ). blockBytes other m pool) (claim-held owner n o map e)
+    (λ m q.
+    ap (λ (l : List ℕ). blockBytes other l pool) q
     ∙ ap (λ (b : List ℕ). pick (eqb o other) (take blockSize pool ++ b) b) (claim-bytes other owner n map (drop blockSize pool) d z))
 
 -- the first blocks of a pool: one block, and n - 1 of what is behind it
@@ -236,23 +233,19 @@ pub claim-found : (owner n : ℕ) (map pool : List ℕ) → owner ≢ free → h
 unfolding blockBytes claimed
 claim-found owner n [] pool h z = sym (take-nil (blockSize * n))
 claim-found owner n (o ∷ map) pool h z =
-    claim-cases n o
-    (λ e g.
-    let left : heldBy owner map ≡ 0 = sym (held-not owner o map (λ w. h (sym w ∙ e))) ∙ z in
-    ap (λ (m : List ℕ). blockBytes owner m pool) (claim-taken owner n o map e g) ∙ bytes-mine owner owner (claimed owner (n - 1) map) pool refl
-    ∙ ap (λ (b : List ℕ). take blockSize pool ++ b) (claim-found owner (n - 1) map (drop blockSize pool) h left)
+    let left : o ≢ owner → heldBy owner map ≡ 0 = λ d. sym (held-not owner o map d) ∙ z in
+    claim-cases owner n o map
+    (λ e g q.
+    ap (λ (m : List ℕ). blockBytes owner m pool) q ∙ bytes-mine owner owner (claimed owner (n - 1) map) pool refl
+    ∙ ap (λ (b : List ℕ). take blockSize pool ++ b) (claim-found owner (n - 1) map (drop blockSize pool) h (left (λ w. h (sym w ∙ e))))
     ∙ take-blocks n pool (blockBytes free map (drop blockSize pool)) g (λ s. behind s)
     ∙ ap (take (blockSize * n)) (sym (bytes-mine free o map pool e)))
-    (λ e g.
-    let left : heldBy owner map ≡ 0 = sym (held-not owner o map (λ w. h (sym w ∙ e))) ∙ z in
-    let none : blockSize * n ≡ 0 = omega arith in
-    ap (λ (m : List ℕ). blockBytes owner m pool) (claim-enough owner n o map g) ∙ bytes-not owner o (claimed owner n map) pool (λ w. h (sym w ∙ e))
-    ∙ claim-found owner n map (drop blockSize pool) h left ∙ rw none)
-    (λ e.
+    (λ m q.
     let other : o ≢ owner = λ w. omega (arith, held-mine owner o map w) in
-    let left : heldBy owner map ≡ 0 = sym (held-not owner o map other) ∙ z in
-    ap (λ (m : List ℕ). blockBytes owner m pool) (claim-held owner n o map e) ∙ bytes-not owner o (claimed owner n map) pool other
-    ∙ claim-found owner n map (drop blockSize pool) h left ∙ ap (take (blockSize * n)) (sym (bytes-not free o map pool e)))
+    ap (λ (l : List ℕ). blockBytes owner l pool) q ∙ bytes-not owner o (claimed owner n map) pool other ∙ claim-found owner n map (drop blockSize pool) h (left other)
+    ∙ same-or-not o free
+    (λ e. let none : blockSize * n ≡ 0 = omega (arith, rw (eq-eqb o free e) at m) in rw none)
+    (λ e. ap (take (blockSize * n)) (sym (bytes-not free o map pool e))))
   where
     behind : length pool < blockSize → blockBytes free map (drop blockSize pool) ≡ []
     behind s =
@@ -265,13 +258,11 @@ unfolding blockBytes released
 release-bytes low high other [] pool h d = refl
 release-bytes low high other (o ∷ map) pool h d =
     let ih = release-bytes low high other map (drop blockSize pool) h d in
-    let same : blockBytes other (o ∷ released low high map) pool ≡ blockBytes other (o ∷ map) pool = ap (λ (b : List ℕ). pick (eqb o other) (take blockSize pool ++ b) b) ih in
-    release-cases low high o
-    (λ p q.
-    ap (λ (m : List ℕ). blockBytes other m pool) (release-hit low high o map p q) ∙ bytes-not other free (released low high map) pool (λ w. h (sym w)) ∙ ih
-    ∙ sym (bytes-not other o map pool (λ w. d (rw w at p) (rw w at q))))
-    (λ p. ap (λ (m : List ℕ). blockBytes other m pool) (release-below low high o map p) ∙ same)
-    (λ p. ap (λ (m : List ℕ). blockBytes other m pool) (release-above low high o map p) ∙ same)
+    release-cases low high o map
+    (λ p r q.
+    ap (λ (m : List ℕ). blockBytes other m pool) q ∙ bytes-not other free (released low high map) pool (λ w. h (sym w)) ∙ ih
+    ∙ sym (bytes-not other o map pool (λ w. d (rw w at p) (rw w at r))))
+    (λ n q. ap (λ (m : List ℕ). blockBytes other m pool) q ∙ ap (λ (b : List ℕ). pick (eqb o other) (take blockSize pool ++ b) b) ih)
 
 -- ---- delivery
 
