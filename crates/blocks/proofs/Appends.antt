@@ -56,9 +56,10 @@ append-skip owner n off at k s (o ∷ map) pool f g =
         in-two (appended owner off s (drop j map)) blockSize (blockSize * j) pool ∙ rw (q, m)
 
 -- the block at the place where the payload goes
-pub from-found : (owner at : ℕ) (s map pool : List ℕ) {k : ℕ} → k ≡ placeOf owner (at / blockSize) map → appendedFrom owner k (at % blockSize) s map pool ≡ appended owner at s map pool
+pub from-found : (owner at : ℕ) (s map pool : List ℕ) {k : ℕ} → k ≡ placeOf owner (at / blockSize) map
+    → {after : List ℕ} → after ≡ appendedFrom owner k (at % blockSize) s map pool → after ≡ appended owner at s map pool
 unfolding appendedFrom
-from-found owner at s map pool {k} is = sym (append-skip owner (at / blockSize) (at % blockSize) at k s map pool (omega arith) is)
+from-found owner at s map pool {k} is e = e ∙ sym (append-skip owner (at / blockSize) (at % blockSize) at k s map pool (omega arith) is)
 
 -- nothing is appended
 append-nothing : (owner at : ℕ) (map pool : List ℕ) → appended owner at [] map pool ≡ pool

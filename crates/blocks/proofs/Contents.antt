@@ -87,20 +87,23 @@ bytes-length owner (o ∷ map) pool h =
     (λ e. ap length (bytes-mine owner o map pool e) ∙ length-append (take blockSize pool) _ ∙ omega (arith, held-mine owner o map e))
     (λ e. ap length (bytes-not owner o map pool e) ∙ omega (arith, held-not owner o map e))
 
+-- an append, by its first block: what that is afterwards, and the append to the blocks behind it
+by-block : {X : Type 0} (owner at o : ℕ) (s map pool : List ℕ)
+    → ((block : List ℕ) (place : ℕ) (later : List ℕ) → appended owner at s (o ∷ map) pool ≡ block ++ appended owner place later map (drop blockSize pool)
+    → length block ≡ length (take blockSize pool) → (o ≢ owner → block ≡ take blockSize pool) → X) → X
+by-block owner at o s map pool f =
+    same-or-not o owner
+    (λ e. f (over at s (take blockSize pool)) (at - blockSize) (drop (blockSize - at) s) (append-mine owner at o s map pool e) (over-length at s (take blockSize pool)) (λ d. absurd (d e)))
+    (λ e. f (take blockSize pool) at s (append-not owner at o s map pool e) refl (λ d. refl))
+
 -- an append changes no length
 pub append-length : (owner at : ℕ) (s map pool : List ℕ) → length (appended owner at s map pool) ≡ length pool
 unfolding appended
 append-length owner at s [] pool = refl
 append-length owner at s (o ∷ map) pool =
-    let whole : length (take blockSize pool) + length (drop blockSize pool) ≡ length pool =
-    sym (length-append (take blockSize pool) (drop blockSize pool)) ∙ ap length (take-append-drop blockSize pool) in
-    same-or-not o owner
-    (λ e.
-    ap length (append-mine owner at o s map pool e) ∙ length-append (over at s (take blockSize pool)) _
-    ∙ omega (arith, over-length at s (take blockSize pool), append-length owner (at - blockSize) (drop (blockSize - at) s) map (drop blockSize pool)))
-    (λ e.
-    ap length (append-not owner at o s map pool e) ∙ length-append (take blockSize pool) _
-    ∙ omega (arith, append-length owner at s map (drop blockSize pool)))
+    by-block owner at o s map pool λ block place later is same other.
+    ap length is ∙ length-append block _
+    ∙ omega (arith, append-length owner place later map (drop blockSize pool), length-take blockSize pool, length-drop blockSize pool)
 
 -- ---- appending
 
@@ -157,24 +160,17 @@ pub append-others : (other owner at : ℕ) (s map pool : List ℕ) → other ≢
 unfolding blockBytes
 append-others other owner at s [] pool d = refl
 append-others other owner at s (o ∷ map) pool d =
-    same-or-not o owner
+    by-block owner at o s map pool λ block place later is same stays.
+    let rest : List ℕ = appended owner place later map (drop blockSize pool) in
+    let left = append-length owner place later map (drop blockSize pool) in
+    let behind : blockBytes other map (drop blockSize (block ++ rest)) ≡ blockBytes other map (drop blockSize pool) =
+    ap (blockBytes other map) (behind-block block rest pool same left) ∙ append-others other owner place later map (drop blockSize pool) d in
+    ap (blockBytes other (o ∷ map)) is
+    ∙ same-or-not o other
     (λ e.
-    let block : List ℕ = over at s (take blockSize pool) in
-    let rest : List ℕ = appended owner (at - blockSize) (drop (blockSize - at) s) map (drop blockSize pool) in
-    let same = over-length at s (take blockSize pool) in
-    let left = append-length owner (at - blockSize) (drop (blockSize - at) s) map (drop blockSize pool) in
-    let not : o ≢ other = λ w. d (sym w ∙ e) in
-    ap (blockBytes other (o ∷ map)) (append-mine owner at o s map pool e) ∙ bytes-not other o map (block ++ rest) not
-    ∙ ap (blockBytes other map) (behind-block block rest pool same left)
-    ∙ append-others other owner (at - blockSize) (drop (blockSize - at) s) map (drop blockSize pool) d
-    ∙ sym (bytes-not other o map pool not))
-    (λ e.
-    let rest : List ℕ = appended owner at s map (drop blockSize pool) in
-    let left = append-length owner at s map (drop blockSize pool) in
-    ap (blockBytes other (o ∷ map)) (append-not owner at o s map pool e)
-    ∙ ap₂ (λ (a b : List ℕ). pick (eqb o other) (a ++ blockBytes other map b) (blockBytes other map b))
-    (front-block (take blockSize pool) rest pool refl left) (behind-block (take blockSize pool) rest pool refl left)
-    ∙ ap (λ (b : List ℕ). pick (eqb o other) (take blockSize pool ++ b) b) (append-others other owner at s map (drop blockSize pool) d))
+    let here : take blockSize (block ++ rest) ≡ take blockSize pool = front-block block rest pool same left ∙ stays (λ w. d (sym e ∙ w)) in
+    bytes-mine other o map (block ++ rest) e ∙ ap₂ (λ (a b : List ℕ). a ++ b) here behind ∙ sym (bytes-mine other o map pool e))
+    (λ e. bytes-not other o map (block ++ rest) e ∙ behind ∙ sym (bytes-not other o map pool e))
 
 -- the bytes behind the last block stay
 pub append-behind : (owner at : ℕ) (s map pool : List ℕ) → drop (blockSize * length map) (appended owner at s map pool) ≡ drop (blockSize * length map) pool
@@ -182,22 +178,12 @@ unfolding appended
 append-behind owner at s [] pool = refl
 append-behind owner at s (o ∷ map) pool =
     let n : blockSize * suc (length map) ≡ blockSize + blockSize * length map = omega arith in
-    same-or-not o owner
-    (λ e.
-    let block : List ℕ = over at s (take blockSize pool) in
-    let rest : List ℕ = appended owner (at - blockSize) (drop (blockSize - at) s) map (drop blockSize pool) in
-    let same = over-length at s (take blockSize pool) in
-    let left = append-length owner (at - blockSize) (drop (blockSize - at) s) map (drop blockSize pool) in
-    rw n (ap (drop (blockSize + blockSize * length map)) (append-mine owner at o s map pool e)
+    by-block owner at o s map pool λ block place later is same other.
+    let rest : List ℕ = appended owner place later map (drop blockSize pool) in
+    let left = append-length owner place later map (drop blockSize pool) in
+    rw n (ap (drop (blockSize + blockSize * length map)) is
     ∙ sym (drop-drop (blockSize * length map) blockSize (block ++ rest)) ∙ ap (drop (blockSize * length map)) (behind-block block rest pool same left)
-    ∙ append-behind owner (at - blockSize) (drop (blockSize - at) s) map (drop blockSize pool) ∙ drop-drop (blockSize * length map) blockSize pool))
-    (λ e.
-    let rest : List ℕ = appended owner at s map (drop blockSize pool) in
-    let left = append-length owner at s map (drop blockSize pool) in
-    rw n (ap (drop (blockSize + blockSize * length map)) (append-not owner at o s map pool e)
-    ∙ sym (drop-drop (blockSize * length map) blockSize (take blockSize pool ++ rest))
-    ∙ ap (drop (blockSize * length map)) (behind-block (take blockSize pool) rest pool refl left)
-    ∙ append-behind owner at s map (drop blockSize pool) ∙ drop-drop (blockSize * length map) blockSize pool))
+    ∙ append-behind owner place later map (drop blockSize pool) ∙ drop-drop (blockSize * length map) blockSize pool)
 
 -- ---- claiming and releasing: the pool is not touched
 

@@ -1,7 +1,6 @@
 -- `blocks::append` meets its contract: up to the block that is found nothing changes, and `fill` appends from there on; in the first block it appends from the start.
 -- Assumes nothing.
 use Prim.Native.Nat.{_/_}
-use mathlib.Core.Path.{_∙_}
 use native.Mathlib.Omega.{arith}
 use Rattle.blocks.specs.Pool.{appendedFrom}
 use Rattle.blocks.proofs.Counts.{place-most}
@@ -18,7 +17,7 @@ fill-requires-2 : tie.Need-fill-requires-2
 fill-requires-2 c κs = let a = (c .before .before .before .before .before .before .args) in (omega arith, omega (arith, (c .before .find-block .ensures), place-most (a .owner .0) (a .at / 256) (a .map .now)))
 
 returns-2 : tie.Need-returns-2
-returns-2 c = let a = (c .before .before .before .before .before .before .before .before .before .args) in (c .before .before .fill2 .ensures) ∙ from-found (a .owner .0) (a .at) (a .payload .now) (a .map .now) (a .pool .now) (c .before .before .before .before .find-block .ensures)
+returns-2 c = let a = (c .before .before .before .before .before .before .before .before .before .args) in from-found (a .owner .0) (a .at) (a .payload .now) (a .map .now) (a .pool .now) (c .before .before .before .before .find-block .ensures) (c .before .before .fill2 .ensures)
 
 pub append-spec : {M : Type 1} → statement M
 append-spec =
