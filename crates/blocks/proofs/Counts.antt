@@ -32,25 +32,6 @@ places : blockNumbers 5 (5 ∷ 3 ∷ 5 ∷ 4 ∷ 5 ∷ []) ∷ (heldBy 5 (5 ∷ 
 unfolding numbersFrom heldBy placeOf
 places = refl
 
--- ---- blocks for so many bytes
-
--- enough, and not one more than that
-pub needed-enough : (total : ℕ) → total ≤ blockSize * neededFor total
-unfolding neededFor
-needed-enough total = omega arith
-
-pub needed-least : (total : ℕ) → blockSize * neededFor total < total + blockSize
-unfolding neededFor
-needed-least total = omega arith
-
-pub needed-some : (total : ℕ) → 0 < total → 0 < neededFor total
-unfolding neededFor
-needed-some total h = omega arith
-
-pub needed-most : (total : ℕ) → total ≤ blockSize * blockCount → neededFor total ≤ blockCount
-unfolding neededFor
-needed-most total h = omega arith
-
 -- ---- the count of one entry
 
 -- one entry more
@@ -67,30 +48,6 @@ pub held-most : (owner : ℕ) (map : List ℕ) → heldBy owner map ≤ length m
 unfolding heldBy
 held-most owner [] = omega arith
 held-most owner (o ∷ map) = split (eqb o owner) (λ e. rw e (omega (arith, held-most owner map))) (λ e. rw e (omega (arith, held-most owner map)))
-
--- ---- the map with every block free
-
-pub free-map-length : length freeMap ≡ blockCount
-unfolding freeMap
-free-map-length = length-replicate blockCount free
-
-all-free : (n : ℕ) → heldBy free (replicate n free) ≡ n
-unfolding heldBy
-all-free zero = refl
-all-free (suc n) = omega (arith, all-free n)
-
-none-held : (owner n : ℕ) → owner ≢ free → heldBy owner (replicate n free) ≡ 0
-unfolding heldBy
-none-held owner zero h = refl
-none-held owner (suc n) h = held-not owner free (replicate n free) (λ e. h (sym e)) ∙ none-held owner n h
-
-pub free-map-free : freeIn freeMap ≡ blockCount
-unfolding freeMap
-free-map-free = all-free blockCount
-
-pub free-map-held : (owner : ℕ) → owner ≢ free → heldBy owner freeMap ≡ 0
-unfolding freeMap
-free-map-held owner h = none-held owner blockCount h
 
 -- ---- claiming
 
@@ -154,21 +111,6 @@ claim-leaves other owner n (o ∷ map) d z =
     ap (heldBy other) q ∙ held-not other owner (claimed owner (n - 1) map) (λ w. d (sym w))
     ∙ claim-leaves other owner (n - 1) map d z ∙ sym (held-not other o map (λ w. z (sym w ∙ e))))
     (λ m q. ap (heldBy other) q ∙ omega (arith, claim-leaves other owner n map d z))
-
--- if n are free, a new owner has exactly n blocks, and n fewer are free
-pub record Claims (owner n : ℕ) (map after : List ℕ) : Type 0 where
-  pub holds : heldBy owner after ≡ n
-  pub spare : freeIn after + n ≡ freeIn map
-  pub others : (other : ℕ) → other ≢ owner → other ≢ free → heldBy other after ≡ heldBy other map
-  pub size : length after ≡ length map
-
-pub claim-new : (owner n : ℕ) (map : List ℕ) → owner ≢ free → heldBy owner map ≡ 0 → n ≤ freeIn map → Claims owner n map (claimed owner n map)
-claim-new owner n map h e g = record {
-  holds = omega (arith, claim-gives owner n map h);
-  spare = omega (arith, claim-lowers owner n map h);
-  others = λ other d z. claim-leaves other owner n map d z;
-  size = claim-length owner n map;
-}
 
 -- ---- releasing
 
@@ -245,21 +187,6 @@ release-one owner map h =
     let e : suc owner - owner ≡ 1 = omega arith in
     release-raises owner owner map (omega arith) ∙ rw e (omega arith)
 
--- ---- all owners together
-
--- the blocks of all owners below a bound, the free ones among them, are all blocks
-pub counts-below : (bound : ℕ) (map : List ℕ) → Below bound map → heldByAll 0 bound map ≡ length map
-counts-below bound [] h = all-none 0 bound
-counts-below bound (o ∷ map) h = all-hit 0 bound o map (omega arith) (omega arith) ∙ ap suc (counts-below bound map (h .1))
-
--- the bytes of a slice are owners below 256
-pub counts-all : (map : List ℕ) → AreBytes map → heldByAll 0 256 map ≡ length map
-counts-all map h = counts-below 256 map (bytes-below map h)
-  where
-    bytes-below : (map : List ℕ) → AreBytes map → Below 256 map
-    bytes-below [] h = tt
-    bytes-below (o ∷ map) h = (h .0, bytes-below map (h .1))
-
 -- ---- block numbers
 
 pub numbers-mine : (b owner o : ℕ) (map : List ℕ) → o ≡ owner → numbersFrom b owner (o ∷ map) ≡ b ∷ numbersFrom (suc b) owner map
@@ -269,15 +196,6 @@ numbers-mine b owner o map e = rw (eq-eqb o owner e)
 pub numbers-not : (b owner o : ℕ) (map : List ℕ) → o ≢ owner → numbersFrom b owner (o ∷ map) ≡ numbersFrom (suc b) owner map
 unfolding numbersFrom
 numbers-not b owner o map h = rw (ne-eqb o owner h)
-
--- as many as blocks are held
-pub numbers-length : (b owner : ℕ) (map : List ℕ) → length (numbersFrom b owner map) ≡ heldBy owner map
-unfolding numbersFrom heldBy
-numbers-length b owner [] = refl
-numbers-length b owner (o ∷ map) =
-    split (eqb o owner)
-    (λ e. rw e (omega (arith, numbers-length (suc b) owner map)))
-    (λ e. rw e (omega (arith, numbers-length (suc b) owner map)))
 
 -- a new owner's blocks are the lowest n of the free ones
 pub claim-lowest : (b owner n : ℕ) (map : List ℕ) → owner ≢ free → heldBy owner map ≡ 0 → numbersFrom b owner (claimed owner n map) ≡ take n (numbersFrom b free map)
@@ -359,28 +277,3 @@ place-skip owner n (suc c) (o ∷ map) h g =
     let k : n - heldBy owner (o ∷ take c map) ≡ n - heldBy owner (take c map) = omega arith in
     place-not owner n o map e ∙ ap suc (place-skip owner n c map (omega arith) (omega arith))
     ∙ rw (← k) (omega arith))
-
--- the numbers of an owner's blocks are their places, in order
-pub place-number : (b owner n : ℕ) (map : List ℕ) → n < heldBy owner map → getD (numbersFrom b owner map) n 0 ≡ b + placeOf owner n map
-unfolding heldBy numbersFrom
-place-number b owner n [] h = absurd (omega arith)
-place-number b owner n (o ∷ map) h =
-    place-cases owner n o
-    (λ e z. ap₂ (λ (l : List ℕ) (k : ℕ). getD l k 0) (numbers-mine b owner o map e) z ∙ omega (arith, place-here owner n o map e z))
-    (λ e z.
-    let m : n ≡ suc (n - 1) = omega arith in
-    ap₂ (λ (l : List ℕ) (k : ℕ). getD l k 0) (numbers-mine b owner o map e) m
-    ∙ place-number (suc b) owner (n - 1) map (omega (arith, held-mine owner o map e)) ∙ omega (arith, place-later owner n o map e z))
-    (λ e.
-    ap (λ (l : List ℕ). getD l n 0) (numbers-not b owner o map e)
-    ∙ place-number (suc b) owner n map (omega (arith, held-not owner o map e)) ∙ omega (arith, place-not owner n o map e))
-
--- there is no such block
-pub place-missing : (owner n : ℕ) (map : List ℕ) → heldBy owner map ≤ n → placeOf owner n map ≡ length map
-unfolding heldBy placeOf
-place-missing owner n [] h = refl
-place-missing owner n (o ∷ map) h =
-    place-cases owner n o
-    (λ e z. absurd (omega (arith, held-mine owner o map e)))
-    (λ e z. place-later owner n o map e z ∙ ap suc (place-missing owner (n - 1) map (omega (arith, held-mine owner o map e))))
-    (λ e. place-not owner n o map e ∙ ap suc (place-missing owner n map (omega (arith, held-not owner o map e))))

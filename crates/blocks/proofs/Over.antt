@@ -37,13 +37,6 @@ over-length zero [] (x ∷ l) = refl
 over-length zero (y ∷ s) (x ∷ l) = ap suc (over-length zero s l)
 over-length (suc at) s (x ∷ l) = ap suc (over-length at s l)
 
--- the bytes before the place stay
-pub over-before : (at : ℕ) (s l : List ℕ) → take at (over at s l) ≡ take at l
-unfolding over
-over-before at s [] = refl
-over-before zero s (x ∷ l) = refl
-over-before (suc at) s (x ∷ l) = ap (λ (t : List ℕ). x ∷ t) (over-before at s l)
-
 -- the bytes behind what was put stay
 pub over-behind : (at : ℕ) (s l : List ℕ) → drop (at + length s) (over at s l) ≡ drop (at + length s) l
 unfolding over
