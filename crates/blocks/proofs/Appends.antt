@@ -15,7 +15,7 @@ use Rattle.blocks.specs.Map.{blockSize, placeOf}
 use Rattle.blocks.specs.Pool.{appendedFrom, over, appended}
 use Rattle.blocks.proofs.Over.{over-length, over-past, over-nothing}
 use Rattle.blocks.proofs.Counts.{place-here, place-later, place-not, place-cases}
-use Rattle.blocks.proofs.Contents.{append-mine, append-not, append-length, front-block, behind-block, nil-of}
+use Rattle.blocks.proofs.Contents.{append-mine, append-not, append-length, block-and-rest, nil-of}
 use Rattle.blocks.proofs.Parts.{starts, ends, short}
 use Rattle.blocks.proofs.Turns.{part-behind, rest-place, next-block}
 
@@ -109,14 +109,10 @@ module _ (owner b at : ℕ) (s map pool : List ℕ) (k : ℕ) (is : k ≡ b + pl
       let same : length r ≡ length (take blockSize (drop start pool)) = ap length put ∙ over-length at s (take blockSize (drop start pool)) in
       let here : drop k map ≡ owner ∷ drop (k + 1) map = next-block owner map b k is below in
       let none : at - blockSize ≡ 0 = omega arith in
-      rw (
-        n,
-        take-append-add (take start pool) (r ++ behind) blockSize,
-        drop-append-add (take start pool) (r ++ behind) blockSize,
-        front-block r behind (drop start pool) same refl,
-        behind-block r behind (drop start pool) same refl,
-        append-assoc,
-      )
+      let apart = block-and-rest r behind (drop start pool) same refl in
+      let near = take-append-add (take start pool) (r ++ behind) blockSize in
+      let far = drop-append-add (take start pool) (r ++ behind) blockSize in
+      rw (n, near, far, apart .0, apart .1, append-assoc)
       (sym (from-skip ∙ rw (here, append-mine owner at owner s (drop (k + 1) map) (drop start pool) refl, none, ← put)))
 
 -- ---- the loop

@@ -56,23 +56,15 @@ pub nil-of : (l : List ℕ) → length l ≡ 0 → l ≡ []
 nil-of [] e = refl
 nil-of (x ∷ l) e = absurd (omega arith)
 
-module _ (block rest pool : List ℕ) (same : length block ≡ length (take blockSize pool)) (left : length rest ≡ length (drop blockSize pool)) where
-  pub front-block : take blockSize (block ++ rest) ≡ block
-  front-block =
-      compare blockSize (length pool)
-      (λ h. take-at block rest blockSize (same ∙ length-take-le blockSize pool h))
-      (λ h.
-      let none : rest ≡ [] = nil-of rest (omega (arith, length-drop blockSize pool)) in
-      rw (none, append-nil) (take-all blockSize block (omega (arith, length-take blockSize pool))))
-
-  pub behind-block : drop blockSize (block ++ rest) ≡ rest
-  behind-block =
-      compare blockSize (length pool)
-      (λ h. drop-at block rest blockSize (same ∙ length-take-le blockSize pool h))
-      (λ h.
-      let none : rest ≡ [] = nil-of rest (omega (arith, length-drop blockSize pool)) in
-      let short : length block ≤ blockSize = omega (arith, length-take blockSize pool) in
-      rw (none, append-nil) (drop-of-length-le block {i = blockSize} short))
+pub block-and-rest : (block rest pool : List ℕ) → length block ≡ length (take blockSize pool) → length rest ≡ length (drop blockSize pool)
+    → (take blockSize (block ++ rest) ≡ block) × (drop blockSize (block ++ rest) ≡ rest)
+block-and-rest block rest pool same left =
+    compare blockSize (length pool)
+    (λ h. let full : length block ≡ blockSize = same ∙ length-take-le blockSize pool h in (take-at block rest blockSize full, drop-at block rest blockSize full))
+    (λ h.
+    let none : rest ≡ [] = nil-of rest (omega (arith, length-drop blockSize pool)) in
+    let short : length block ≤ blockSize = omega (arith, length-take blockSize pool) in
+    rw (none, append-nil block) (take-all blockSize block short, drop-of-length-le block {i = blockSize} short))
 
 -- ---- how long
 
@@ -135,14 +127,14 @@ append-bytes owner at s (o ∷ map) pool =
     let same = over-length at s (take blockSize pool) in
     let left = append-length owner at₂ s₂ map (drop blockSize pool) in
     ap (blockBytes owner (o ∷ map)) (append-mine owner at o s map pool e) ∙ bytes-mine owner o map (block ++ rest) e
-    ∙ ap₂ (λ (a b : List ℕ). a ++ blockBytes owner map b) (front-block block rest pool same left) (behind-block block rest pool same left)
+    ∙ ap₂ (λ (a b : List ℕ). a ++ blockBytes owner map b) (block-and-rest block rest pool same left .0) (block-and-rest block rest pool same left .1)
     ∙ ap (λ (t : List ℕ). block ++ t) (append-bytes owner at₂ s₂ map (drop blockSize pool) ∙ whole-or-last owner at s map pool)
     ∙ sym (over-append at s (take blockSize pool) old) ∙ ap (over at s) (sym (bytes-mine owner o map pool e)))
     (λ e.
     let rest : List ℕ = appended owner at s map (drop blockSize pool) in
     let left = append-length owner at s map (drop blockSize pool) in
     ap (blockBytes owner (o ∷ map)) (append-not owner at o s map pool e) ∙ bytes-not owner o map (take blockSize pool ++ rest) e
-    ∙ ap (blockBytes owner map) (behind-block (take blockSize pool) rest pool refl left) ∙ append-bytes owner at s map (drop blockSize pool)
+    ∙ ap (blockBytes owner map) (block-and-rest (take blockSize pool) rest pool refl left .1) ∙ append-bytes owner at s map (drop blockSize pool)
     ∙ ap (over at s) (sym (bytes-not owner o map pool e)))
 
 -- where the payload fits, it stands right behind the first `at` bytes
@@ -164,26 +156,13 @@ append-others other owner at s (o ∷ map) pool d =
     let rest : List ℕ = appended owner place later map (drop blockSize pool) in
     let left = append-length owner place later map (drop blockSize pool) in
     let behind : blockBytes other map (drop blockSize (block ++ rest)) ≡ blockBytes other map (drop blockSize pool) =
-    ap (blockBytes other map) (behind-block block rest pool same left) ∙ append-others other owner place later map (drop blockSize pool) d in
+    ap (blockBytes other map) (block-and-rest block rest pool same left .1) ∙ append-others other owner place later map (drop blockSize pool) d in
     ap (blockBytes other (o ∷ map)) is
     ∙ same-or-not o other
     (λ e.
-    let here : take blockSize (block ++ rest) ≡ take blockSize pool = front-block block rest pool same left ∙ stays (λ w. d (sym e ∙ w)) in
+    let here : take blockSize (block ++ rest) ≡ take blockSize pool = block-and-rest block rest pool same left .0 ∙ stays (λ w. d (sym e ∙ w)) in
     bytes-mine other o map (block ++ rest) e ∙ ap₂ (λ (a b : List ℕ). a ++ b) here behind ∙ sym (bytes-mine other o map pool e))
     (λ e. bytes-not other o map (block ++ rest) e ∙ behind ∙ sym (bytes-not other o map pool e))
-
--- the bytes behind the last block stay
-pub append-behind : (owner at : ℕ) (s map pool : List ℕ) → drop (blockSize * length map) (appended owner at s map pool) ≡ drop (blockSize * length map) pool
-unfolding appended
-append-behind owner at s [] pool = refl
-append-behind owner at s (o ∷ map) pool =
-    let n : blockSize * suc (length map) ≡ blockSize + blockSize * length map = omega arith in
-    by-block owner at o s map pool λ block place later is same other.
-    let rest : List ℕ = appended owner place later map (drop blockSize pool) in
-    let left = append-length owner place later map (drop blockSize pool) in
-    rw n (ap (drop (blockSize + blockSize * length map)) is
-    ∙ sym (drop-drop (blockSize * length map) blockSize (block ++ rest)) ∙ ap (drop (blockSize * length map)) (behind-block block rest pool same left)
-    ∙ append-behind owner place later map (drop blockSize pool) ∙ drop-drop (blockSize * length map) blockSize pool)
 
 -- ---- claiming and releasing: the pool is not touched
 
@@ -199,44 +178,6 @@ claim-bytes other owner n (o ∷ map) pool d z =
     (λ m q.
     ap (λ (l : List ℕ). blockBytes other l pool) q
     ∙ ap (λ (b : List ℕ). pick (eqb o other) (take blockSize pool ++ b) b) (claim-bytes other owner n map (drop blockSize pool) d z))
-
--- the first blocks of a pool: one block, and n - 1 of what is behind it
-take-blocks : (n : ℕ) (pool rest : List ℕ) → 0 < n → (length pool < blockSize → rest ≡ [])
-    → take blockSize pool ++ take (blockSize * (n - 1)) rest ≡ take (blockSize * n) (take blockSize pool ++ rest)
-take-blocks n pool rest h none =
-    compare blockSize (length pool)
-    (λ g.
-    let full : length (take blockSize pool) ≡ blockSize = length-take-le blockSize pool g in
-    let e : blockSize * n ≡ length (take blockSize pool) + blockSize * (n - 1) = omega arith in
-    rw e (sym (take-append-add (take blockSize pool) rest (blockSize * (n - 1)))))
-    (λ g.
-    let short : length (take blockSize pool) ≤ blockSize * n = omega (arith, length-take blockSize pool) in
-    rw (none g, take-nil (blockSize * (n - 1)), append-nil (take blockSize pool)) (sym (take-all (blockSize * n) (take blockSize pool) short)))
-
--- a new owner's bytes are those of the lowest n free blocks, as they were
-pub claim-found : (owner n : ℕ) (map pool : List ℕ) → owner ≢ free → heldBy owner map ≡ 0
-    → blockBytes owner (claimed owner n map) pool ≡ take (blockSize * n) (blockBytes free map pool)
-unfolding blockBytes claimed
-claim-found owner n [] pool h z = sym (take-nil (blockSize * n))
-claim-found owner n (o ∷ map) pool h z =
-    let left : o ≢ owner → heldBy owner map ≡ 0 = λ d. sym (held-not owner o map d) ∙ z in
-    claim-cases owner n o map
-    (λ e g q.
-    ap (λ (m : List ℕ). blockBytes owner m pool) q ∙ bytes-mine owner owner (claimed owner (n - 1) map) pool refl
-    ∙ ap (λ (b : List ℕ). take blockSize pool ++ b) (claim-found owner (n - 1) map (drop blockSize pool) h (left (λ w. h (sym w ∙ e))))
-    ∙ take-blocks n pool (blockBytes free map (drop blockSize pool)) g (λ s. behind s)
-    ∙ ap (take (blockSize * n)) (sym (bytes-mine free o map pool e)))
-    (λ m q.
-    let other : o ≢ owner = λ w. omega (arith, held-mine owner o map w) in
-    ap (λ (l : List ℕ). blockBytes owner l pool) q ∙ bytes-not owner o (claimed owner n map) pool other ∙ claim-found owner n map (drop blockSize pool) h (left other)
-    ∙ same-or-not o free
-    (λ e. let none : blockSize * n ≡ 0 = omega (arith, rw (eq-eqb o free e) at m) in rw none)
-    (λ e. ap (take (blockSize * n)) (sym (bytes-not free o map pool e))))
-  where
-    behind : length pool < blockSize → blockBytes free map (drop blockSize pool) ≡ []
-    behind s =
-        let short : length pool ≤ blockSize = omega arith in
-        rw (drop-of-length-le pool {i = blockSize} short) (bytes-none free map)
 
 -- a release leaves the bytes of every owner that is not released
 pub release-bytes : (low high other : ℕ) (map pool : List ℕ) → other ≢ free → Outside low high other → blockBytes other (released low high map) pool ≡ blockBytes other map pool
