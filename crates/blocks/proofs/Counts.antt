@@ -1,18 +1,18 @@
 -- The laws of the block map, for any map: how many blocks each owner has after a claim and after a release, and which.
 -- By induction along the map. Assumes nothing.
-use Prim.Native.Nat.{ℕ, zero, suc, _+_, _-_, _*_, _≤_, _<_, min}
-use mathlib.Core.Path.{_≡_, refl, ap, ap₂, sym, _∙_}
+use Prim.Native.Nat.{ℕ, zero, suc, _+_, _-_, _≤_, _<_, min}
+use mathlib.Core.Path.{_≡_, refl, ap, sym, _∙_}
 use mathlib.Core.Logic.{_≢_}
 use mathlib.Core.Bool.{_&&_}
 use mathlib.Core.List.{List, [], _∷_}
 use native.Mathlib.Omega.{arith}
 use lib.Dec.{eqb, ltb, leb}
-use lib.ListN.{length, take, drop, getD, replicate, length-replicate}
+use lib.ListN.{length, take, drop, getD}
 use lib.Seq.{take-nil}
-use borrow.Author.Tests.{eqb-true, eqb-false, eq-eqb, ne-eqb, ltb-true, ltb-false, leb-true, leb-false, le-leb, lt-leb, lt-ltb, le-ltb}
-use Rattle.numbers.specs.Bytes.{pick, AreBytes}
+use borrow.Author.Tests.{eqb-true, eqb-false, eq-eqb, ne-eqb, ltb-true, ltb-false, leb-true, leb-false, lt-ltb}
+use Rattle.numbers.specs.Bytes.{pick}
 use Rattle.numbers.proofs.Choices.{split, same-or-not}
-use Rattle.blocks.specs.Map.{blockSize, blockCount, free, neededFor, freeMap, heldBy, heldByAll, freeIn, claimed, released, numbersFrom, blockNumbers, placeOf, Below, Outside}
+use Rattle.blocks.specs.Map.{free, neededFor, heldBy, heldByAll, freeIn, claimed, released, numbersFrom, blockNumbers, placeOf, Below, Outside}
 
 -- ---- worked cases, by computation: before the laws, so that a changed definition is told by its values
 
@@ -186,6 +186,13 @@ unfolding heldByAll
 release-one owner map h =
     let e : suc owner - owner ≡ 1 = omega arith in
     release-raises owner owner map (omega arith) ∙ rw e (omega arith)
+
+-- ---- all owners together
+
+-- the blocks of all owners below a bound, the free ones among them, are all blocks
+pub counts-below : (bound : ℕ) (map : List ℕ) → Below bound map → heldByAll 0 bound map ≡ length map
+counts-below bound [] h = all-none 0 bound
+counts-below bound (o ∷ map) h = all-hit 0 bound o map (omega arith) (omega arith) ∙ ap suc (counts-below bound map (h .1))
 
 -- ---- block numbers
 
