@@ -133,7 +133,7 @@ module _ {owner first at b place done : ℕ} {payload map before pool : List ℕ
 
   module _ {r : ℕ} (scanned : r ≡ placeOf owner 0 (take (length map - b) (drop b map))) where
     next : b + r ≡ b + placeOf owner 0 (drop b map)
-    next = ap (λ (j : ℕ). b + j) (rest-place owner 0 map b r scanned)
+    next = ap (λ (j : ℕ). b + j) (rest-place owner 0 map b scanned)
 
     pub filling-no-block : length map ≤ b + r → pool ≡ appendedFrom owner first at payload map before
     filling-no-block h = no-block owner b place (drop done payload) map pool (b + r) next h ∙ i .rest

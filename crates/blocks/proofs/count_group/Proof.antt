@@ -17,14 +17,14 @@ abbrev μ-loop : tie.MeasureT-loop
 μ-loop entries owner count₀ i₀ count i = length entries - i
 
 add-count : tie.Need-add-count Inv-loop μ-loop
-add-count c = let l = (c .before .before .before .loop) in let a = (c .before .before .before .before .before .args) in omega (arith, count-one (a .owner) (a .entries .now) (l .i) (c .one-if-same .result) (c .one-if-same .ensures))
+add-count c = let l = (c .before .before .before .loop) in let a = (c .before .before .before .before .before .args) in omega (arith, count-one (a .owner) (a .entries .now) (l .i) (c .one-if-same .ensures))
 
 loop-again : tie.Need-loop-again Inv-loop μ-loop
 loop-again c =
     let l = (c .before .before .before .loop) in
     let a = (c .before .before .before .before .before .args) in
-    let e = count-turn (a .owner) (a .entries .now) (l .i) (c .one-if-same .result) (omega arith) (c .one-if-same .ensures) in
-    (omega arith, omega (arith, count-one (a .owner) (a .entries .now) (l .i) (c .one-if-same .result) (c .one-if-same .ensures)), omega arith)
+    let e = count-turn (a .owner) (a .entries .now) (l .i) (omega arith) (c .one-if-same .ensures) in
+    (omega arith, omega (arith, count-one (a .owner) (a .entries .now) (l .i) (c .one-if-same .ensures)), omega arith)
 
 returns : tie.Need-returns Inv-loop μ-loop
 returns c = let a = (c .before .before .before .args) in omega (arith, count-end (a .owner) (a .entries .now) ((c .before .loop .i)) (omega arith))

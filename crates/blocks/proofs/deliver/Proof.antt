@@ -17,7 +17,7 @@ abbrev μ-loop : tie.MeasureT-loop
 μ-loop map owner due pool out₀ most whole from₀ done₀ out from done = whole - from
 
 mul-here : tie.Need-mul-here Inv-loop μ-loop
-mul-here c = omega (arith, (c .wide .ensures), group-most ((c .before .before .before .before .before .before .before .before .before .before .args) .owner .0) ((c .before .before .before .before .before .before .before .before .before .before .args) .map .now) ((c .before .before .before .before .loop) .from) 16 (c .before .count-group .result) (c .before .count-group .ensures))
+mul-here c = omega (arith, (c .wide .ensures), group-most ((c .before .before .before .before .before .before .before .before .before .before .args) .owner .0) ((c .before .before .before .before .before .before .before .before .before .before .args) .map .now) ((c .before .before .before .before .loop) .from) 16 (c .before .count-group .ensures))
 
 loop-again : tie.Need-loop-again Inv-loop μ-loop
 loop-again c =

@@ -27,7 +27,7 @@ loop-holds c = record {
 }
 
 add-k : tie.Need-add-k Inv-loop μ-loop
-add-k c = let a = (c .before .before .before .before .before .before .before .args) in omega (arith, place-inside (a .owner) 0 (a .map .now) (c .before .before .before .loop .b) (c .scan .result) (omega arith) (c .scan .ensures))
+add-k c = let a = (c .before .before .before .before .before .before .before .args) in omega (arith, place-inside (a .owner) 0 (a .map .now) (c .before .before .before .loop .b) (omega arith) (c .scan .ensures))
 
 -- past the second test: the block starts inside the pool
 inside : (c : tie.Then2 Inv-loop μ-loop) → 256 * (c .before .before .before .before .before .before .loop .b + c .before .before .before .scan .result) < length (c .before .before .before .before .before .before .loop .pool)

@@ -12,14 +12,14 @@ add-found c =
     let a = (c .before .before .before .before .before .before .before .args) in
     let far = (c .before .before .before .before .before .skip .result) in
     let near = (c .before .before .before .skip2 .result) in
-    omega (arith, place-inside (a .owner) (near .left) (a .map .now) (far .from + near .from) (c .scan .result) (skip-inside (a .map .now) (far .from) (near .from) ((c .before .before .before .before .before .skip .ensures) .0) ((c .before .before .before .skip2 .ensures) .0)) (c .scan .ensures))
+    omega (arith, place-inside (a .owner) (near .left) (a .map .now) (far .from + near .from) (skip-inside (a .map .now) (far .from) (near .from) ((c .before .before .before .before .before .skip .ensures) .0) ((c .before .before .before .skip2 .ensures) .0)) (c .scan .ensures))
 
 returns : tie.Need-returns
 returns c =
     let a = (c .before .before .before .before .before .before .before .args) in
     let far = (c .before .before .before .before .before .skip .result) in
     let near = (c .before .before .before .skip2 .result) in
-    skip-twice (a .map .now) (far .from) (near .from) (a .owner) (a .n) (far .left) (near .left) (c .scan .result) ((c .before .before .before .before .before .skip .ensures) .1) ((c .before .before .before .skip2 .ensures) .1) (c .scan .ensures)
+    skip-twice (a .map .now) (far .from) (near .from) (a .owner) (a .n) (far .left) (near .left) ((c .before .before .before .before .before .skip .ensures) .1) ((c .before .before .before .skip2 .ensures) .1) (c .scan .ensures)
 
 pub find-block-spec : {M : Type 1} → statement M
 find-block-spec =

@@ -17,7 +17,7 @@ abbrev μ-loop : tie.MeasureT-loop
 μ-loop map number count₀ from₀ count from = length map - from
 
 add-count : tie.Need-add-count Inv-loop μ-loop
-add-count c = let l = (c .before .before .before .before .loop) in let a = (c .before .before .before .before .before .before .args) in omega (arith, group-most (a .owner .0) (a .map .now) (l .from) 64 (c .before .count-group .result) (c .before .count-group .ensures))
+add-count c = let l = (c .before .before .before .before .loop) in let a = (c .before .before .before .before .before .before .args) in omega (arith, group-most (a .owner .0) (a .map .now) (l .from) 64 (c .before .count-group .ensures))
 
 loop-again : tie.Need-loop-again Inv-loop μ-loop
 loop-again c =
@@ -25,15 +25,15 @@ loop-again c =
     let a = (c .before .before .before .before .before .before .args) in
     let e = (c .wide .ensures) in (
       omega arith,
-      omega (arith, group-most (a .owner .0) (a .map .now) (l .from) 64 (c .before .count-group .result) (c .before .count-group .ensures)),
-      omega (arith, group-turn (a .owner .0) (a .map .now) (l .from) 64 (c .before .count-group .result) (c .before .count-group .ensures)),
+      omega (arith, group-most (a .owner .0) (a .map .now) (l .from) 64 (c .before .count-group .ensures)),
+      omega (arith, group-turn (a .owner .0) (a .map .now) (l .from) 64 (c .before .count-group .ensures)),
     )
 
 add-result : tie.Need-add-result Inv-loop μ-loop
-add-result c = let l = (c .before .before .before .before .loop) in let a = (c .before .before .before .before .before .before .args) in omega (arith, rest-most (a .owner .0) (a .map .now) (l .from) (c .before .count-group2 .result) (omega arith) (c .before .count-group2 .ensures))
+add-result c = let l = (c .before .before .before .before .loop) in let a = (c .before .before .before .before .before .before .args) in omega (arith, rest-most (a .owner .0) (a .map .now) (l .from) (omega arith) (c .before .count-group2 .ensures))
 
 returns : tie.Need-returns Inv-loop μ-loop
-returns c = let l = (c .before .before .before .before .loop) in let a = (c .before .before .before .before .before .before .args) in omega (arith, rest-count (a .owner .0) (a .map .now) (l .from) (c .before .count-group2 .result) (c .before .count-group2 .ensures))
+returns c = let l = (c .before .before .before .before .loop) in let a = (c .before .before .before .before .before .before .args) in omega (arith, rest-count (a .owner .0) (a .map .now) (l .from) (c .before .count-group2 .ensures))
 
 pub held-spec : {M : Type 1} → statement M
 held-spec =

@@ -24,7 +24,7 @@ loop-again : tie.Need-loop-again Inv-loop μ-loop
 loop-again c =
     let l = (c .before .before .loop) in
     let h : l .i < length (l .after) = omega arith in
-    (omega arith, simp length-set (omega arith), release-turn _ _ (l .after) (l .i) (c .entry-after .result) h (c .entry-after .ensures) ∙ l .inv .2)
+    (omega arith, simp length-set (omega arith), release-turn _ _ (l .after) (l .i) h (c .entry-after .ensures) ∙ l .inv .2)
 
 returns : tie.Need-returns Inv-loop μ-loop
 returns c = let l = (c .before .loop) in sym (release-end _ _ (l .after) (l .i) (omega arith)) ∙ l .inv .2

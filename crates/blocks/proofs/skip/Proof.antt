@@ -20,7 +20,7 @@ loop-again : tie.Need-loop-again Inv-loop μ-loop
 loop-again c =
     let l = (c .before .before .before .before .before .loop) in
     let a = (c .before .before .before .before .before .before .before .args) in
-    (omega arith, rw (c .before .wide .ensures) (omega (arith, group-pass (a .owner) (a .map .now) (l .from) (a .group) (c .before .before .count-group .result) (c .before .before .count-group .ensures) (l .left) (omega arith) (omega arith))))
+    (omega arith, rw (c .before .wide .ensures) (omega (arith, group-pass (a .owner) (a .map .now) (l .from) (a .group) (c .before .before .count-group .ensures) (l .left) (omega arith) (omega arith))))
 
 pub skip-spec : {M : Type 1} → statement M
 skip-spec =
