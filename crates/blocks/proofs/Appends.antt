@@ -16,7 +16,7 @@ use Rattle.blocks.proofs.Over.{over-length, over-past, over-nothing}
 use Rattle.blocks.proofs.Counts.{place-here, place-later, place-not, place-cases}
 use Rattle.blocks.proofs.Contents.{append-mine, append-not, append-length, block-and-rest, nil-of}
 use Rattle.blocks.proofs.Parts.{starts, ends, short}
-use Rattle.blocks.proofs.Turns.{part-behind, rest-place, next-block}
+use Rattle.blocks.proofs.Turns.{part-behind, rest-place, place-inside, next-block}
 
 -- a pool whose first bytes stay, in one step and in two
 in-two : (f : List ℕ → List ℕ) (a b : ℕ) (pool : List ℕ) → take a pool ++ (take b (drop a pool) ++ f (drop b (drop a pool))) ≡ take (a + b) pool ++ f (drop (a + b) pool)
@@ -135,6 +135,9 @@ module _ {owner first at b place done : ℕ} {payload map before pool : List ℕ
     next : b + r ≡ b + placeOf owner 0 (drop b map)
     next = ap (λ (j : ℕ). b + j) (rest-place owner 0 map b scanned)
 
+    pub filling-found : b + r ≤ length map
+    filling-found = place-inside owner 0 map b (i .passed) scanned
+
     pub filling-no-block : length map ≤ b + r → pool ≡ appendedFrom owner first at payload map before
     filling-no-block h = no-block owner b place (drop done payload) map pool (b + r) next h ∙ i .rest
 
@@ -142,13 +145,16 @@ module _ {owner first at b place done : ℕ} {payload map before pool : List ℕ
       pub filling-no-pool : t ≡ false → pool ≡ appendedFrom owner first at payload map before
       filling-no-pool f = no-pool owner b place (drop done payload) map pool (b + r) next (ends (b + r) (length pool) test f) ∙ i .rest
 
+      pub filling-starts : t ≡ true → blockSize * (b + r) < length pool
+      filling-starts f = starts (b + r) (length pool) test f
+
       -- a turn, with the parts that code lends
       pub filling-turn : t ≡ true → b + r < length map → {start size n : ℕ} → start ≡ blockSize * (b + r) → size ≡ min blockSize (length pool - start)
           → n ≡ min (blockSize - place) (length payload - done)
           → {o : List ℕ} → o ≡ over place (take (length payload - done) (drop done payload)) (take (start + size - start) (drop start pool))
           → Filling owner first at payload map before (putMid start (start + size - start) pool o) (b + r + 1) 0 (done + n)
       filling-turn f below {start} {size} {n} begins sized least {o} put =
-          let fits = starts (b + r) (length pool) test f in
+          let fits = filling-starts f in
           let z : start + size - start ≡ size = omega arith in
           let block = short (drop start pool) blockSize size (omega (arith, length-drop start pool)) in
           let left : drop (done + n) payload ≡ drop (blockSize - place) (drop done payload) =

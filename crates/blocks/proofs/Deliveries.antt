@@ -14,7 +14,7 @@ use Rattle.blocks.proofs.Over.{compare, over-length, over-nothing, over
 use Rattle.blocks.proofs.Counts.{place-here, place-not}
 use Rattle.blocks.proofs.Contents.{bytes-mine, bytes-not, bytes-none, bytes-length, deliver-length}
 use Rattle.blocks.proofs.Parts.{short}
-use Rattle.blocks.proofs.Turns.{part-behind, next-block}
+use Rattle.blocks.proofs.Turns.{group-most, part-behind, next-block}
 
 -- ---- from the owner's first block on
 
@@ -162,6 +162,9 @@ delivering-starts {owner} {due} {most} {whole} {map} {pool} {out} e f = record {
 }
 
 module _ {owner due most whole from done : ℕ} {map pool before out : List ℕ} (i : Delivering owner due map pool before most whole out from done) where
+  pub delivering-few : (w : ℕ) {r : ℕ} → r ≡ heldBy owner (take (from + w - from) (drop from map)) → r ≤ w
+  delivering-few w held = group-most owner map from w held
+
   -- a turn: the blocks among w entries
   module _ (w : ℕ) (more : w ≤ whole - from) {n here : ℕ} (held : here ≡ heldBy owner (take (from + w - from) (drop from map))) (least : n ≡ min (blockSize * here) (most - done))
       {r : List ℕ} (put : r ≡ delivered owner n (take (from + w - from) (drop from map)) (take (length pool - blockSize * from) (drop (blockSize * from) pool)) (take (done + n - done) (drop done out))) where

@@ -4,8 +4,7 @@ use Prim.Native.Nat.{_-_}
 use mathlib.Core.Path.{_∙_}
 use native.Mathlib.Omega.{arith}
 use lib.ListN.{length-take, length-drop}
-use Rattle.blocks.proofs.Turns.{group-most}
-use Rattle.blocks.proofs.Deliveries.{Delivering, delivering-starts, delivering-turn, delivering-ends}
+use Rattle.blocks.proofs.Deliveries.{Delivering, delivering-starts, delivering-few, delivering-turn, delivering-ends}
 use borrow.Author.Needs.{needs}
 use Rattle.blocks.proofs.deliver.Statement.{statement}
 use Rattle.blocks.proofs.deliver.Tie as tie
@@ -15,13 +14,6 @@ Inv-loop map owner due pool out₀ most whole from₀ done₀ out from done = De
 
 abbrev μ-loop : tie.MeasureT-loop
 μ-loop map owner due pool out₀ most whole from₀ done₀ out from done = whole - from
-
-mul-here : tie.Need-mul-here Inv-loop μ-loop
-mul-here c = omega (arith, (c .wide .ensures), group-most ((c .before .before .before .before .before .before .before .before .before .before .args) .owner .0) ((c .before .before .before .before .before .before .before .before .before .before .args) .map .now) ((c .before .before .before .before .loop) .from) 16 (c .before .count-group .ensures))
-
-loop-again : tie.Need-loop-again Inv-loop μ-loop
-loop-again c =
-    delivering-turn (c .before .before .before .before .before .before .before .before .before .before .before .loop .inv) 16 (c .before .before .before .before .before .before .before .before .before .before .loop-test .taken) ((c .before .before .before .before .before .before .before .wide .ensures) ∙ (c .before .before .before .before .before .before .before .before .count-group .ensures)) (c .before .before .before .before .before .before .least3 .ensures) (c .before .before .deliver-blocks .ensures)
 
 pub deliver-spec : {M : Type 1} → statement M
 deliver-spec =
@@ -36,7 +28,7 @@ deliver-spec =
     (λ c. omega arith)  -- next
     (λ c. omega arith) (λ c. omega arith) (λ c. omega arith)  -- &map[from..next]
     (λ c κs. simp (length-take, length-drop) (omega arith))  -- count_group
-    (λ c κs. search needs) mul-here  -- here
+    (λ c κs. search needs) (λ c. omega (arith, (c .wide .ensures), delivering-few (c .before .before .before .before .loop .inv) 16 (c .before .count-group .ensures)))  -- here
     (λ c. omega arith) (λ c κs. search needs)  -- n
     (λ c. omega arith)  -- start
     (λ c. omega (arith, (c .least3 .ensures)))  -- until
@@ -45,7 +37,9 @@ deliver-spec =
     (λ c. omega arith) (λ c. omega arith) (λ c. omega arith)  -- &mut out[done..until]
     (λ c κs. search needs)  -- deliver_blocks
     (λ c. omega arith)  -- whole - from falls
-    loop-again
+    (λ c.
+    delivering-turn (c .before .before .before .before .before .before .before .before .before .before .before .loop .inv) 16 (c .before .before .before .before .before .before .before .before .before .before .loop-test .taken) ((c .before .before .before .before .before .before .before .wide .ensures) ∙ (c .before .before .before .before .before .before .before .before .count-group .ensures)) (c .before .before .before .before .before .before .least3 .ensures)
+    (c .before .before .deliver-blocks .ensures))
     (λ c. omega arith)  -- start
     (λ c. omega arith) (λ c. omega arith) (λ c. omega arith)  -- &map[from..]
     (λ c. omega arith)  -- most - done

@@ -4,9 +4,7 @@ use Prim.Native.Nat.{_<_, _+_, _-_, _*_}
 use mathlib.Core.Path.{refl}
 use native.Mathlib.Omega.{arith}
 use lib.ListN.{length}
-use Rattle.blocks.proofs.Turns.{place-inside}
-use Rattle.blocks.proofs.Parts.{starts}
-use Rattle.blocks.proofs.Appends.{Filling, filling-ends, filling-no-block, filling-no-pool, filling-turn}
+use Rattle.blocks.proofs.Appends.{Filling, filling-ends, filling-found, filling-no-block, filling-no-pool, filling-starts, filling-turn}
 use borrow.Author.Needs.{needs}
 use Rattle.blocks.proofs.fill.Statement.{statement}
 use Rattle.blocks.proofs.fill.Tie as tie
@@ -26,12 +24,9 @@ loop-holds c = record {
   rest = refl;
 }
 
-add-k : tie.Need-add-k Inv-loop μ-loop
-add-k c = let a = (c .before .before .before .before .before .before .before .args) in omega (arith, place-inside (a .owner) 0 (a .map .now) (c .before .before .before .loop .b) (omega arith) (c .scan .ensures))
-
 -- past the second test: the block starts inside the pool
 inside : (c : tie.Then2 Inv-loop μ-loop) → 256 * (c .before .before .before .before .before .before .loop .b + c .before .before .before .scan .result) < length (c .before .before .before .before .before .before .loop .pool)
-inside c = starts (c .before .before .before .before .before .before .loop .b + c .before .before .before .scan .result) (length (c .before .before .before .before .before .before .loop .pool)) (c .before .starts-inside .ensures) (c .if2 .taken)
+inside c = filling-starts (c .before .before .before .before .before .before .loop .inv) (c .before .before .before .scan .ensures) (c .before .starts-inside .ensures) (c .if2 .taken)
 
 loop-again : tie.Need-loop-again Inv-loop μ-loop
 loop-again c =
@@ -47,7 +42,8 @@ fill-spec =
     Inv-loop
     μ-loop
     loop-holds
-    (λ c. search needs) (λ c. search needs) (λ c. search needs) (λ c κs. search needs) add-k  -- k
+    (λ c. search needs) (λ c. search needs) (λ c. search needs) (λ c κs. search needs)  -- scan(&map[b..], ..)
+    (λ c. omega (arith, filling-found (c .before .before .before .loop .inv) (c .scan .ensures)))  -- k
     (λ c. search needs) (λ c. filling-no-block (c .before .before .before .before .loop .inv) (c .before .scan .ensures) (c .if1 .taken))  -- return
     (λ c κs. search needs)  -- starts_inside(k, pool.len())
     (λ c. omega (arith, inside c))  -- start
