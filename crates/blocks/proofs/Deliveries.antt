@@ -46,7 +46,7 @@ take-share due n a b e =
     rw (q, all) (ap (λ (i : ℕ). take i (a ++ b)) w ∙ take-append-add a b (due - length a)))
 
 -- some of what is due lies in a block that starts inside the pool: the bytes still due fall
-pub due-falls : {due n size start bytes : ℕ} → (due ≡ 0 → ⊥) → start < bytes → size ≡ min blockSize (bytes - start) → n ≡ min size due → due - n < due
+pub due-falls : {due n size start bytes : ℕ} → 0 < due → start < bytes → size ≡ min blockSize (bytes - start) → n ≡ min size due → due - n < due
 due-falls h inside sized least = omega arith
 
 module _ (owner due : ℕ) (map pool out : List ℕ) where
@@ -103,18 +103,18 @@ module _ (owner due : ℕ) (map pool out : List ℕ) where
           sym (whole ∙ rw (drop-of-length-le out {i = n} none, take-all n o h) (append-nil o))
 
       -- the rest went to what is behind in out
-      pub deliver-more : {q : List ℕ}
-          → q ≡ delivered owner (due - n) (take (length map - (k + 1)) (drop (k + 1) map)) (take (length pool - (start + size)) (drop (start + size) pool)) (take (length o - n) (drop n o))
-          → putMid n (length o - n) o q ≡ delivered owner due map pool out
+      pub deliver-more : {later behind : ℕ} {q : List ℕ}
+          → q ≡ delivered owner (due - n) (take (length map - later) (drop later map)) (take (length pool - behind) (drop behind pool)) (take (length o - n) (drop n o))
+          → later ≡ k + 1 → behind ≡ start + size → putMid n (length o - n) o q ≡ delivered owner due map pool out
       unfolding delivered rest
-      deliver-more {q} e =
+      deliver-more {later} {behind} {q} e l b =
           let w : 0 + length (take n (drop start pool)) ≡ n = omega (arith, share-length) in
           let far : drop n o ≡ drop n out = ap (drop n) put-share ∙ rw w at (over-behind 0 (take n (drop start pool)) out) in
           let none : drop (length o - n) (drop n o) ≡ [] = drop-of-length-le (drop n o) {i = length o - n} (omega (arith, length-drop n o)) in
-          let behind : drop (start + size) pool ≡ drop blockSize (drop start pool) =
+          let next : drop (start + size) pool ≡ drop blockSize (drop start pool) =
           sym (drop-drop size start pool) ∙ short (drop start pool) blockSize size (omega (arith, length-drop start pool)) .1 in
           let more : q ≡ over 0 (take (due - n) (blockBytes owner (drop (k + 1) map) (drop blockSize (drop start pool)))) (drop n out) =
-          e ∙ rw (part-behind map (k + 1), part-behind pool (start + size), behind, part-behind o n, far) in
+          e ∙ rw (part-behind map later, part-behind pool behind, part-behind o n, far, l, b, next) in
           rw (none, append-nil q, more) (sym whole)
 
 -- ---- the blocks among some entries of the map and then the rest

@@ -43,6 +43,9 @@ module _ (t : ℕ) where
     deliver-blocks.Post,
   )
 
+  none-due : lts.Need-returns callees entered deliver-blocks.Post
+  none-due c = let a = (c .before .before .before .before .args) in deliver-nothing (a .owner .0) (a .due) (a .map .now) (a .pool .now) (a .out .now) (omega arith)
+
   -- past the second test: the owner's first block starts inside the pool
   inside : (c : lts.Then3 callees entered deliver-blocks.Post) → 256 * (c .before .before .before .scan .result) < length (c .before .before .before .before .before .before .before .before .args .pool .now)
   inside c = starts (c .before .before .before .scan .result) (length (c .before .before .before .before .before .before .before .before .args .pool .now)) (c .before .starts-inside .ensures) (c .if3 .taken)
@@ -51,7 +54,7 @@ module _ (t : ℕ) where
   fewer-due c κs =
       let e = (c .before .before .before .before .before .before .before .before .before .before .before .before .before .before .before .before .before .before .before) in
       let s = (c .before .before .before .before .before .before .before .before .before) in
-      (rw (← (e .pre .0)) (due-falls (c .before .before .before .before .before .before .before .before .before .before .before .before .before .before .before .if1 .left) (inside (c .before .before .before .before .before .before .before .before .before .before .before)) (s .before .least .ensures) (s .least2 .ensures)), search needs)
+      (rw (← (e .pre .0)) (due-falls (omega (arith, c .before .before .before .before .before .before .before .before .before .before .before .before .before .before .before .if1 .left)) (inside (c .before .before .before .before .before .before .before .before .before .before .before)) (s .before .least .ensures) (s .least2 .ensures)), search needs)
 
   -- the rest went to what is behind in out; out ends with this block
   goes-on : lts.Need-returns-2 callees entered deliver-blocks.Post
@@ -59,7 +62,7 @@ module _ (t : ℕ) where
       let s = (c .before .before .before .before .before .before .before .before .before .before .before .before) in
       let f = (s .before .before .before .before .before) in
       let a = (f .before .before .before .before .before .args) in
-      deliver-more (a .owner .0) (a .due) (a .map .now) (a .pool .now) (a .out .now) (f .scan .ensures) (s .before .before .before .before .if2 .taken) refl (s .before .least .ensures) (s .least2 .ensures) (c .before .before .before .before .before .before .before .before .before .overwrite .ensures) (c .before .before .deliver-blocks .ensures)
+      deliver-more (a .owner .0) (a .due) (a .map .now) (a .pool .now) (a .out .now) (f .scan .ensures) (s .before .before .before .before .if2 .taken) refl (s .before .least .ensures) (s .least2 .ensures) (c .before .before .before .before .before .before .before .before .before .overwrite .ensures) (c .before .before .deliver-blocks .ensures) refl refl
 
   out-full : lts.Need-returns-3 callees entered deliver-blocks.Post
   out-full c =
@@ -76,9 +79,6 @@ module _ (t : ℕ) where
 
   no-block : lts.Need-returns-5 callees entered deliver-blocks.Post
   no-block c = let a = (c .before .before .before .before .before .before .args) in deliver-no-block (a .owner .0) (a .due) (a .map .now) (a .pool .now) (a .out .now) (c .before .scan .ensures) (c .if2 .left)
-
-  none-due : lts.Need-returns callees entered deliver-blocks.Post
-  none-due c = let a = (c .before .before .before .before .args) in deliver-nothing (a .owner .0) (a .due) (a .map .now) (a .pool .now) (a .out .now) (omega arith)
 
 -- each line of needs is named by what the code says there
 pub +deliver-blocks-spec : {M : Type 1} → statement M
