@@ -80,7 +80,7 @@ module _ (t : ℕ) where
   no-block : lts.Need-returns-5 callees entered deliver-blocks.Post
   no-block c = let a = (c .before .before .before .before .before .before .args) in deliver-no-block (a .owner .0) (a .due) (a .map .now) (a .pool .now) (a .out .now) (c .before .scan .ensures) (c .if2 .left)
 
--- each line of needs is named by what the code says there
+-- the needs in the code's order, each line with the expression that asks for it
 pub +deliver-blocks-spec : {M : Type 1} → statement M
 +deliver-blocks-spec = close due λ t. lts.spec (callees t) (entered t) deliver-blocks.Post
     (none-due t)

@@ -15,6 +15,7 @@ Inv-loop map owner due pool out₀ most whole from₀ done₀ out from done = De
 abbrev μ-loop : tie.MeasureT-loop
 μ-loop map owner due pool out₀ most whole from₀ done₀ out from done = whole - from
 
+-- the needs in the code's order, each line with the expression that asks for it
 pub deliver-spec : {M : Type 1} → statement M
 deliver-spec =
     tie.close

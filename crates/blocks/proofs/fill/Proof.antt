@@ -34,7 +34,7 @@ loop-again c =
     filling-turn (p .before .before .before .before .before .before .loop .inv) (p .before .before .before .scan .ensures) (p .before .starts-inside .ensures) (p .if2 .taken) (p .before .before .if1 .left)
     refl (c .before .before .before .before .before .before .least .ensures) (c .least2 .ensures) (c .before .before .before .overwrite .ensures)
 
--- the needs stand in the code's order, each line named by its expression
+-- the needs in the code's order, each line with the expression that asks for it
 pub fill-spec : {M : Type 1} → statement M
 fill-spec =
     tie.close
