@@ -113,17 +113,13 @@ pub place-inside : (owner n : ℕ) (map : List ℕ) (i : ℕ) {r : ℕ} → i �
 place-inside owner n map i h e = omega (arith, rest-place owner n map i e, place-most owner n (drop i map), length-drop i map)
 
 -- groups passed over, then smaller ones behind them, then entries
-module _ (map : List ℕ) (a b : ℕ) where
-  pub skip-inside : a ≤ length map → b ≤ length (take (length map - a) (drop a map)) → a + b ≤ length map
-  skip-inside h g = omega (arith, ap length (part-behind map a), length-drop a map)
-
-  pub skip-twice : (owner n m k : ℕ) {r : ℕ} → a + placeOf owner m (drop a map) ≡ placeOf owner n map
-      → b + placeOf owner k (drop b (take (length map - a) (drop a map))) ≡ placeOf owner m (take (length map - a) (drop a map))
-      → r ≡ placeOf owner k (take (length map - (a + b)) (drop (a + b) map))
-      → a + b + r ≡ placeOf owner n map
-  skip-twice owner n m k e f g =
-      let near : b + placeOf owner k (drop (a + b) map) ≡ placeOf owner m (drop a map) = rw (part-behind map a, drop-drop b a map) at f in
-      omega (arith, rest-place owner k map (a + b) g)
+pub skip-twice : (map : List ℕ) (a b owner n m k : ℕ) {r : ℕ} → a + placeOf owner m (drop a map) ≡ placeOf owner n map
+    → b + placeOf owner k (drop b (take (length map - a) (drop a map))) ≡ placeOf owner m (take (length map - a) (drop a map))
+    → r ≡ placeOf owner k (take (length map - (a + b)) (drop (a + b) map))
+    → a + b + r ≡ placeOf owner n map
+skip-twice map a b owner n m k e f g =
+    let near : b + placeOf owner k (drop (a + b) map) ≡ placeOf owner m (drop a map) = rw (part-behind map a, drop-drop b a map) at f in
+    omega (arith, rest-place owner k map (a + b) g)
 
 -- finding: the block itself, another of the owner's before it, one of another, the end
 module _ (owner n : ℕ) (map : List ℕ) (i : ℕ) where

@@ -1,18 +1,11 @@
 -- `blocks::find_block` meets its contract: what both ways of counting passed and the place in the entries left are the place in the whole map.
 -- Assumes nothing.
-use Prim.Native.Nat.{_+_}
 use native.Mathlib.Omega.{arith}
-use Rattle.blocks.proofs.Turns.{place-inside, skip-inside, skip-twice}
+use Rattle.blocks.proofs.Counts.{place-most}
+use Rattle.blocks.proofs.Turns.{skip-twice}
 use borrow.Author.Needs.{needs}
 use Rattle.blocks.proofs.find_block.Statement.{statement}
 use Rattle.blocks.proofs.find_block.Tie as tie
-
-add-found : tie.Need-add-found
-add-found c =
-    let a = (c .before .before .before .before .before .before .before .args) in
-    let far = (c .before .before .before .before .before .skip .result) in
-    let near = (c .before .before .before .skip2 .result) in
-    omega (arith, place-inside (a .owner) (near .left) (a .map .now) (far .from + near .from) (skip-inside (a .map .now) (far .from) (near .from) ((c .before .before .before .before .before .skip .ensures) .0) ((c .before .before .before .skip2 .ensures) .0)) (c .scan .ensures))
 
 returns : tie.Need-returns
 returns c =
@@ -29,5 +22,5 @@ find-block-spec =
     (λ c. search needs) (λ c. search needs) (λ c. search needs) (λ c κs. search needs)  -- near
     (λ c. search needs)  -- b
     (λ c. search needs) (λ c. search needs) (λ c. search needs) (λ c κs. search needs)  -- scan(&map[b..], ..)
-    add-found  -- found
+    (λ c. let a = (c .before .before .before .before .before .before .before .args) in omega (arith, returns c, place-most (a .owner) (a .n) (a .map .now)))  -- found
     returns)
