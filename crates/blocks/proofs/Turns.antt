@@ -11,7 +11,6 @@ use lib.Dec.{eqb, leb}
 use lib.ListN.{length, take, drop, getD, set, drop-of-length-le, take-append-drop, length-take, length-drop}
 use lib.Seq.{drop-cons, take-suc, take-suc-set, drop-set-lt, append-snoc, take-all, drop-drop, getD-drop}
 use Rattle.numbers.specs.Bytes.{pick}
-use Rattle.numbers.proofs.Choices.{split}
 use Rattle.blocks.specs.Map.{free, heldBy, claimed, released, placeOf}
 use Rattle.blocks.proofs.Counts.{held-most, claim-none, claim-taken, claim-held, place-here, place-later, place-not, place-most, place-owner, place-skip}
 
@@ -66,10 +65,6 @@ module _ (owner : ℕ) (map : List ℕ) (i : ℕ) where
   unfolding heldBy
   count-end h = rw drop-of-length-le
 
-  -- an entry counts for one at most
-  pub count-one : {v : ℕ} → v ≡ pick (eqb (getD map i 0) owner) 1 0 → v ≤ 1
-  count-one e = split (eqb (getD map i 0) owner) (λ t. omega (arith, rw t at e)) (λ t. omega (arith, rw t at e))
-
 pub held-pieces : (owner : ℕ) (a b : List ℕ) → heldBy owner (a ++ b) ≡ heldBy owner a + heldBy owner b
 unfolding heldBy
 held-pieces owner [] b = omega arith
@@ -102,9 +97,6 @@ module _ (owner : ℕ) (map : List ℕ) (i n : ℕ) {r : ℕ} (e : r ≡ heldBy 
 -- those that are left
 pub rest-count : (owner : ℕ) (map : List ℕ) (i : ℕ) {r : ℕ} → r ≡ heldBy owner (take (length map - i) (drop i map)) → r ≡ heldBy owner (drop i map)
 rest-count owner map i e = e ∙ ap (heldBy owner) (part-behind map i)
-
-pub rest-most : (owner : ℕ) (map : List ℕ) (i : ℕ) {r : ℕ} → i ≤ length map → r ≡ heldBy owner (take (length map - i) (drop i map)) → r + i ≤ length map
-rest-most owner map i h e = omega (arith, rest-count owner map i e, held-most owner (drop i map), length-drop i map)
 
 pub rest-place : (owner n : ℕ) (map : List ℕ) (i : ℕ) {r : ℕ} → r ≡ placeOf owner n (take (length map - i) (drop i map)) → r ≡ placeOf owner n (drop i map)
 rest-place owner n map i e = e ∙ ap (placeOf owner n) (part-behind map i)

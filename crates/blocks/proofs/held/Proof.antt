@@ -5,35 +5,25 @@ use mathlib.Core.Path.{_≡_}
 use native.Mathlib.Omega.{arith}
 use lib.ListN.{length, drop, length-take, length-drop}
 use Rattle.blocks.specs.Map.{heldBy}
-use Rattle.blocks.proofs.Turns.{group-turn, group-most, rest-count, rest-most}
+use Rattle.blocks.proofs.Counts.{held-most}
+use Rattle.blocks.proofs.Turns.{group-turn, rest-count}
 use borrow.Author.Needs.{needs}
 use Rattle.blocks.proofs.held.Statement.{statement}
 use Rattle.blocks.proofs.held.Tie as tie
 
 abbrev Inv-loop : tie.InvT-loop
-Inv-loop map number count₀ from₀ count from = (from ≤ length map) × (count ≤ from) × (count + heldBy number (drop from map) ≡ heldBy number map)
+Inv-loop map number count₀ from₀ count from = (from ≤ length map) × (count + heldBy number (drop from map) ≡ heldBy number map)
 
 abbrev μ-loop : tie.MeasureT-loop
 μ-loop map number count₀ from₀ count from = length map - from
 
-add-count : tie.Need-add-count Inv-loop μ-loop
-add-count c = let l = (c .before .before .before .before .loop) in let a = (c .before .before .before .before .before .before .args) in omega (arith, group-most (a .owner .0) (a .map .now) (l .from) 64 (c .before .count-group .ensures))
-
 loop-again : tie.Need-loop-again Inv-loop μ-loop
 loop-again c =
-    let l = (c .before .before .before .before .loop) in
     let a = (c .before .before .before .before .before .before .args) in
-    let e = (c .wide .ensures) in (
-      omega arith,
-      omega (arith, group-most (a .owner .0) (a .map .now) (l .from) 64 (c .before .count-group .ensures)),
-      omega (arith, group-turn (a .owner .0) (a .map .now) (l .from) 64 (c .before .count-group .ensures)),
-    )
-
-add-result : tie.Need-add-result Inv-loop μ-loop
-add-result c = let l = (c .before .before .before .before .loop) in let a = (c .before .before .before .before .before .before .args) in omega (arith, rest-most (a .owner .0) (a .map .now) (l .from) (omega arith) (c .before .count-group2 .ensures))
+    (omega arith, omega (arith, (c .wide .ensures), group-turn (a .owner .0) (a .map .now) (c .before .before .before .before .loop .from) 64 (c .before .count-group .ensures)))
 
 returns : tie.Need-returns Inv-loop μ-loop
-returns c = let l = (c .before .before .before .before .loop) in let a = (c .before .before .before .before .before .before .args) in omega (arith, rest-count (a .owner .0) (a .map .now) (l .from) (c .before .count-group2 .ensures))
+returns c = let a = (c .before .before .before .before .before .before .args) in omega (arith, rest-count (a .owner .0) (a .map .now) (c .before .before .before .before .loop .from) (c .before .count-group2 .ensures))
 
 pub held-spec : {M : Type 1} → statement M
 held-spec =
@@ -46,9 +36,9 @@ held-spec =
     (λ c. search needs)  -- end
     (λ c. search needs) (λ c. search needs) (λ c. search needs)  -- &map[from..end]
     (λ c κs. simp (length-take, length-drop) (omega arith)) (λ c κs. search needs)  -- wide(count_group(..))
-    add-count  -- count
+    (λ c. omega (arith, loop-again c .1, held-most (c .before .before .before .before .before .before .args .owner .0) (c .before .before .before .before .before .before .args .map .now)))  -- count
     (λ c. search needs)  -- map.len() - from falls
     loop-again
     (λ c. search needs) (λ c. search needs) (λ c. search needs)  -- &map[from..]
-    (λ c κs. simp (length-take, length-drop) (omega arith)) (λ c κs. search needs) add-result  -- the sum
+    (λ c κs. simp (length-take, length-drop) (omega arith)) (λ c κs. search needs) (λ c. omega (arith, returns c, held-most (c .before .before .before .before .before .before .args .owner .0) (c .before .before .before .before .before .before .args .map .now)))  -- the sum
     returns)
