@@ -9,7 +9,7 @@ use Rattle.blocks.proofs.copy_block.Tie as tie
 returns : tie.Need-returns
 returns c =
     let a = (c .before .before .before .before .before .before .before .before .before .before .before .before .before .args) in
-    halves (a .source .now) (a .target .now) _ _ (omega arith) (omega arith) (c .before .before .before .before .before .before .before .copy-short .ensures) (c .before .before .copy-short2 .ensures)
+    halves (a .source .now) (a .target .now) (omega arith) (omega arith) (c .before .before .before .before .before .before .before .copy-short .ensures) (c .before .before .copy-short2 .ensures)
 
 pub copy-block-spec : {M : Type 1} → statement M
 copy-block-spec =

@@ -8,7 +8,7 @@ use Rattle.blocks.proofs.copy_short.Tie as tie
 returns : tie.Need-returns
 returns c =
     let a = (c .before .before .before .before .before .before .before .before .before .before .before .args) in
-    by-way (a .source .now) _ _ (a .target .now) _ ((c .before .before .before .before .before .before .before .before .before .before .before .pre) .1) ((c .before .before .before .before .before .before .before .copy .ensures) .1) ((c .before .before .copy2 .ensures) .1)
+    by-way (a .source .now) _ (a .target .now) ((c .before .before .before .before .before .before .before .before .before .before .before .pre) .1) ((c .before .before .before .before .before .before .before .copy .ensures) .1) ((c .before .before .copy2 .ensures) .1)
 
 pub copy-short-spec : {M : Type 1} → statement M
 copy-short-spec =
