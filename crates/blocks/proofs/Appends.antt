@@ -131,6 +131,10 @@ module _ {owner first at b place done : ℕ} {payload map before pool : List ℕ
   filling-ends h =
       sym (rw (drop-of-length-le payload {i = done} h, append-nothing owner place (drop b map) (drop (blockSize * b) pool)) (take-append-drop (blockSize * b) pool)) ∙ i .rest
 
+  -- some of the payload is left, and the block takes some of it
+  pub filling-falls : done < length payload → {n : ℕ} → n ≡ min (blockSize - place) (length payload - done) → length payload - (done + n) < length payload - done
+  filling-falls more least = omega arith
+
   module _ {r : ℕ} (scanned : r ≡ placeOf owner 0 (take (length map - b) (drop b map))) where
     next : b + r ≡ b + placeOf owner 0 (drop b map)
     next = ap (λ (j : ℕ). b + j) (rest-place owner 0 map b scanned)

@@ -84,11 +84,11 @@ module _ (t : ℕ) where
 pub +deliver-blocks-spec : {M : Type 1} → statement M
 +deliver-blocks-spec = close due λ t. lts.spec (callees t) (entered t) deliver-blocks.Post
     (none-due t)
-    (λ c κs. search needs)  -- ahead
-    (λ c κs. search needs)  -- starts_inside(ahead, pool.len())
+    (λ c κs. tt)  -- ahead
+    (λ c κs. tt)  -- starts_inside(ahead, pool.len())
     (λ c. omega (arith, inside t c))  -- start
-    (λ c. omega (arith, inside t c)) (λ c κs. search needs)  -- size
-    (λ c κs. search needs)  -- n
+    (λ c. omega (arith, inside t c)) (λ c κs. tt)  -- size
+    (λ c κs. tt)  -- n
     (λ c. omega (arith, inside t (c .before .before)))  -- end
     (λ c. search needs) (λ c. search needs) (λ c. omega (arith, inside t (c .before .before))) (λ c κs. search needs)  -- overwrite(&pool[start..end], 0, out)
     (λ c. search needs)  -- later

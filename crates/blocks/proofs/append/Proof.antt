@@ -24,5 +24,5 @@ append-spec =
     tie.close
     (tie.spec
     (λ c κs. search needs) (λ c. search needs) returns  -- in the first block
-    (λ c κs. search needs)  -- b
+    (λ c κs. tt)  -- b
     fill-requires-2 (λ c. search needs) returns-2)  -- behind it

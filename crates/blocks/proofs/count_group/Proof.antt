@@ -30,7 +30,7 @@ count-group-spec =
     Inv-loop
     μ-loop
     (λ c. search needs)
-    (λ c. search needs) (λ c κs. search needs) (λ c. omega (arith, loop-again c .1, held-most (c .before .before .before .before .before .args .owner) (c .before .before .before .before .before .args .entries .now)))  -- count
+    (λ c. search needs) (λ c κs. tt) (λ c. omega (arith, loop-again c .1, held-most (c .before .before .before .before .before .args .owner) (c .before .before .before .before .before .args .entries .now)))  -- count
     (λ c. search needs)  -- i
     (λ c. search needs)  -- entries.len() - i falls
     loop-again

@@ -22,21 +22,21 @@ deliver-spec =
     (tie.spec
     Inv-loop
     μ-loop
-    (λ c κs. search needs)  -- most
-    (λ c κs. search needs)  -- whole
+    (λ c κs. tt)  -- most
+    (λ c κs. tt)  -- whole
     (λ c. delivering-starts (c .before .least .ensures) (c .least2 .ensures))
     (λ c. omega arith)  -- whole - from
     (λ c. omega arith)  -- next
     (λ c. omega arith) (λ c. omega arith) (λ c. omega arith)  -- &map[from..next]
     (λ c κs. simp (length-take, length-drop) (omega arith))  -- count_group
-    (λ c κs. search needs) (λ c. omega (arith, (c .wide .ensures), delivering-few (c .before .before .before .before .loop .inv) 16 (c .before .count-group .ensures)))  -- here
-    (λ c. omega arith) (λ c κs. search needs)  -- n
+    (λ c κs. tt) (λ c. omega (arith, (c .wide .ensures), delivering-few (c .before .before .before .before .loop .inv) 16 (c .before .count-group .ensures)))  -- here
+    (λ c. omega arith) (λ c κs. tt)  -- n
     (λ c. omega arith)  -- start
     (λ c. omega (arith, (c .least3 .ensures)))  -- until
     (λ c. omega arith) (λ c. omega arith) (λ c. omega arith)  -- &map[from..next]
     (λ c. omega arith) (λ c. omega arith) (λ c. omega arith)  -- &pool[start..]
     (λ c. omega arith) (λ c. omega arith) (λ c. omega arith)  -- &mut out[done..until]
-    (λ c κs. search needs)  -- deliver_blocks
+    (λ c κs. tt)  -- deliver_blocks
     (λ c. omega arith)  -- whole - from falls
     (λ c.
     delivering-turn (c .before .before .before .before .before .before .before .before .before .before .before .loop .inv) 16 (c .before .before .before .before .before .before .before .before .before .before .loop-test .taken) ((c .before .before .before .before .before .before .before .wide .ensures) ∙ (c .before .before .before .before .before .before .before .before .count-group .ensures)) (c .before .before .before .before .before .before .least3 .ensures)
@@ -46,6 +46,6 @@ deliver-spec =
     (λ c. omega arith)  -- most - done
     (λ c. omega arith) (λ c. omega arith) (λ c. omega arith)  -- &pool[start..]
     (λ c. omega arith) (λ c. omega arith) (λ c. omega arith)  -- &mut out[done..most]
-    (λ c κs. search needs)  -- deliver_blocks
+    (λ c κs. tt)  -- deliver_blocks
     (λ c. search needs)
     (λ c. delivering-ends (c .before .before .before .before .before .before .before .loop .inv) (c .before .before .deliver-blocks2 .ensures)))

@@ -4,7 +4,7 @@ use Prim.Native.Nat.{_<_, _+_, _-_, _*_}
 use mathlib.Core.Path.{refl}
 use native.Mathlib.Omega.{arith}
 use lib.ListN.{length}
-use Rattle.blocks.proofs.Appends.{Filling, filling-ends, filling-found, filling-no-block, filling-no-pool, filling-starts, filling-turn}
+use Rattle.blocks.proofs.Appends.{Filling, filling-ends, filling-falls, filling-found, filling-no-block, filling-no-pool, filling-starts, filling-turn}
 use borrow.Author.Needs.{needs}
 use Rattle.blocks.proofs.fill.Statement.{statement}
 use Rattle.blocks.proofs.fill.Tie as tie
@@ -42,18 +42,18 @@ fill-spec =
     Inv-loop
     μ-loop
     loop-holds
-    (λ c. search needs) (λ c. search needs) (λ c. search needs) (λ c κs. search needs)  -- scan(&map[b..], ..)
+    (λ c. search needs) (λ c. search needs) (λ c. search needs) (λ c κs. tt)  -- scan(&map[b..], ..)
     (λ c. omega (arith, filling-found (c .before .before .before .loop .inv) (c .scan .ensures)))  -- k
     (λ c. search needs) (λ c. filling-no-block (c .before .before .before .before .loop .inv) (c .before .scan .ensures) (c .if1 .taken))  -- return
-    (λ c κs. search needs)  -- starts_inside(k, pool.len())
+    (λ c κs. tt)  -- starts_inside(k, pool.len())
     (λ c. omega (arith, inside c))  -- start
-    (λ c. omega (arith, inside c)) (λ c κs. search needs) (λ c. omega (arith, inside (c .before)))  -- end
+    (λ c. omega (arith, inside c)) (λ c κs. tt) (λ c. omega (arith, inside (c .before)))  -- end
     (λ c. search needs) (λ c. search needs) (λ c. search needs)  -- &payload[done..]
     (λ c. search needs) (λ c. search needs) (λ c. omega (arith, inside (c .before .before)))  -- &mut pool[start..end]
     (λ c κs. search needs)  -- overwrite
-    (λ c. search needs) (λ c. search needs) (λ c κs. search needs) (λ c. search needs)  -- done
+    (λ c. search needs) (λ c. search needs) (λ c κs. tt) (λ c. search needs)  -- done
     (λ c. search needs)  -- b
-    (λ c. search needs)  -- payload.len() - done falls
+    (λ c. filling-falls (c .before .before .before .before .before .before .before .before .before .before .before .before .before .loop .inv) (c .before .before .before .before .before .before .before .before .before .before .before .before .loop-test .taken) (c .least2 .ensures))  -- payload.len() - done falls
     loop-again
     (λ c. search needs) (λ c. filling-no-pool (c .before .before .before .before .before .before .loop .inv) (c .before .before .before .scan .ensures) (c .before .starts-inside .ensures) (c .if2 .left))  -- return
     (λ c. search needs) (λ c. filling-ends (c .before .loop .inv) (omega arith)))

@@ -21,6 +21,6 @@ find-block-spec =
     (λ c κs. search needs)  -- far
     (λ c. search needs) (λ c. search needs) (λ c. search needs) (λ c κs. search needs)  -- near
     (λ c. search needs)  -- b
-    (λ c. search needs) (λ c. search needs) (λ c. search needs) (λ c κs. search needs)  -- scan(&map[b..], ..)
+    (λ c. search needs) (λ c. search needs) (λ c. search needs) (λ c κs. tt)  -- scan(&map[b..], ..)
     (λ c. let a = (c .before .before .before .before .before .before .before .args) in omega (arith, returns c, place-most (a .owner) (a .n) (a .map .now)))  -- found
     returns)

@@ -35,10 +35,10 @@ held-spec =
     (λ c. search needs)  -- map.len() - from
     (λ c. search needs)  -- end
     (λ c. search needs) (λ c. search needs) (λ c. search needs)  -- &map[from..end]
-    (λ c κs. simp (length-take, length-drop) (omega arith)) (λ c κs. search needs)  -- wide(count_group(..))
+    (λ c κs. simp (length-take, length-drop) (omega arith)) (λ c κs. tt)  -- wide(count_group(..))
     (λ c. omega (arith, loop-again c .1, held-most (c .before .before .before .before .before .before .args .owner .0) (c .before .before .before .before .before .before .args .map .now)))  -- count
     (λ c. search needs)  -- map.len() - from falls
     loop-again
     (λ c. search needs) (λ c. search needs) (λ c. search needs)  -- &map[from..]
-    (λ c κs. simp (length-take, length-drop) (omega arith)) (λ c κs. search needs) (λ c. omega (arith, returns c, held-most (c .before .before .before .before .before .before .args .owner .0) (c .before .before .before .before .before .before .args .map .now)))  -- the sum
+    (λ c κs. simp (length-take, length-drop) (omega arith)) (λ c κs. tt) (λ c. omega (arith, returns c, held-most (c .before .before .before .before .before .before .args .owner .0) (c .before .before .before .before .before .before .args .map .now)))  -- the sum
     returns)

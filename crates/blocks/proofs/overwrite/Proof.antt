@@ -17,7 +17,7 @@ pub overwrite-spec : {M : Type 1} → statement M
 overwrite-spec =
     tie.close
     (tie.spec
-    (λ c. search needs) (λ c κs. search needs)  -- n
+    (λ c. search needs) (λ c κs. tt)  -- n
     (λ c. search needs)  -- end
     (λ c. search needs) (λ c. search needs) (λ c. search needs)  -- &source[0..n]
     (λ c. search needs) (λ c. search needs) (λ c. search needs)  -- &mut target[at..end]

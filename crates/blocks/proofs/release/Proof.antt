@@ -36,7 +36,7 @@ release-spec =
     Inv-loop
     μ-loop
     loop-holds
-    (λ c. search needs) (λ c κs. search needs) (λ c. search needs)  -- after[i]
+    (λ c. search needs) (λ c κs. tt) (λ c. search needs)  -- after[i]
     (λ c. search needs)  -- i
     (λ c. search needs)  -- BLOCK_COUNT - i falls
     loop-again

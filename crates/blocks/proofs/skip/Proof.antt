@@ -32,7 +32,7 @@ skip-spec =
     (λ c. search needs)  -- map.len() - from
     (λ c. search needs)  -- end
     (λ c. search needs) (λ c. search needs) (λ c. search needs)  -- &map[from..end]
-    (λ c κs. simp (length-take, length-drop) (omega arith)) (λ c κs. search needs)  -- here
+    (λ c κs. simp (length-take, length-drop) (omega arith)) (λ c κs. tt)  -- here
     (λ c. search needs)
     (λ c. search needs)  -- map.len() - from falls
     loop-again
