@@ -51,8 +51,8 @@ fill-spec =
     (λ c. search needs) (λ c. search needs) (λ c. search needs)  -- &payload[done..]
     (λ c. search needs) (λ c. search needs) (λ c. omega (arith, inside (c .before .before)))  -- &mut pool[start..end]
     (λ c κs. search needs)  -- overwrite
-    (λ c. search needs) (λ c. search needs) (λ c κs. tt) (λ c. search needs)  -- done
-    (λ c. search needs)  -- b
+    (λ c. omega arith) (λ c. omega arith) (λ c κs. tt) (λ c. omega arith)  -- done
+    (λ c. omega arith)  -- b
     (λ c. filling-falls (c .before .before .before .before .before .before .before .before .before .before .before .before .before .loop .inv) (c .before .before .before .before .before .before .before .before .before .before .before .before .loop-test .taken) (c .least2 .ensures))  -- payload.len() - done falls
     loop-again
     (λ c. search needs) (λ c. filling-no-pool (c .before .before .before .before .before .before .loop .inv) (c .before .before .before .scan .ensures) (c .before .starts-inside .ensures) (c .if2 .left))  -- return
