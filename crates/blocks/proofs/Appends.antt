@@ -15,7 +15,7 @@ use Rattle.blocks.specs.Pool.{appendedFrom, over, appended}
 use Rattle.blocks.proofs.Over.{over-length, over-past, over-nothing}
 use Rattle.blocks.proofs.Counts.{place-here, place-later, place-not, place-cases}
 use Rattle.blocks.proofs.Contents.{append-mine, append-not, append-length, block-and-rest, nil-of}
-use Rattle.blocks.proofs.Parts.{starts, ends, short}
+use Rattle.blocks.proofs.Parts.{starts, ends, cut-short}
 use Rattle.blocks.proofs.Turns.{part-behind, rest-place, place-inside, next-block}
 
 -- a pool whose first bytes stay, in one step and in two
@@ -160,9 +160,9 @@ module _ {owner first at b place done : ℕ} {payload map before pool : List ℕ
       filling-turn f below {start} {size} {n} begins sized least {o} put =
           let fits = filling-starts f in
           let z : start + size - start ≡ size = omega arith in
-          let block = short (drop start pool) blockSize size (omega (arith, length-drop start pool)) in
+          let block = cut-short (drop start pool) blockSize size (omega (arith, length-drop start pool)) in
           let left : drop (done + n) payload ≡ drop (blockSize - place) (drop done payload) =
-          sym (drop-drop n done payload) ∙ short (drop done payload) (blockSize - place) n (omega (arith, length-drop done payload)) .1 in
+          sym (drop-drop n done payload) ∙ cut-short (drop done payload) (blockSize - place) n (omega (arith, length-drop done payload)) .1 in
           let share : o ≡ over place (drop done payload) (take blockSize (drop start pool)) = put ∙ rw (part-behind payload done, z, block .0) in
           record {
             passed = omega arith;

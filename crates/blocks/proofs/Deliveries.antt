@@ -13,7 +13,7 @@ use Rattle.blocks.specs.Pool.{blockBytes, over, delivered}
 use Rattle.blocks.proofs.Over.{compare, over-length, over-nothing, over-behind, over-adds, over-append, over-pieces, over-cut, over-full}
 use Rattle.blocks.proofs.Counts.{place-here, place-not}
 use Rattle.blocks.proofs.Contents.{bytes-mine, bytes-not, bytes-none, bytes-length, deliver-length}
-use Rattle.blocks.proofs.Parts.{short}
+use Rattle.blocks.proofs.Parts.{cut-short}
 use Rattle.blocks.proofs.Turns.{group-most, part-behind, next-block}
 
 -- ---- from the owner's first block on
@@ -112,7 +112,7 @@ module _ (owner due : ℕ) (map pool out : List ℕ) where
           let far : drop n o ≡ drop n out = ap (drop n) put-share ∙ rw w at (over-behind 0 (take n (drop start pool)) out) in
           let none : drop (length o - n) (drop n o) ≡ [] = drop-of-length-le (drop n o) {i = length o - n} (omega (arith, length-drop n o)) in
           let next : drop (start + size) pool ≡ drop blockSize (drop start pool) =
-          sym (drop-drop size start pool) ∙ short (drop start pool) blockSize size (omega (arith, length-drop start pool)) .1 in
+          sym (drop-drop size start pool) ∙ cut-short (drop start pool) blockSize size (omega (arith, length-drop start pool)) .1 in
           let more : q ≡ over 0 (take (due - n) (blockBytes owner (drop (k + 1) map) (drop blockSize (drop start pool)))) (drop n out) =
           e ∙ rw (part-behind map later, part-behind pool behind, part-behind o n, far, l, b, next) in
           rw (none, append-nil q, more) (sym whole)

@@ -32,8 +32,8 @@ pub ends : (k n : ℕ) {t : Bool} → t ≡ ltb (blockSize * k) n → t ≡ fals
 ends k n e f = ltb-false (blockSize * k) n (sym e ∙ f)
 
 -- the part that is there of a longer one is that part, and what is behind it is behind that part
-pub short : (l : List ℕ) (room n : ℕ) → n ≡ min room (length l) → (take n l ≡ take room l) × (drop n l ≡ drop room l)
-short l room n e =
+pub cut-short : (l : List ℕ) (room n : ℕ) → n ≡ min room (length l) → (take n l ≡ take room l) × (drop n l ≡ drop room l)
+cut-short l room n e =
     compare room (length l)
     (λ h. let z : n ≡ room = omega arith in rw z (refl, refl))
     (λ h.

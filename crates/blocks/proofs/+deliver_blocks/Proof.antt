@@ -46,17 +46,18 @@ module _ (t : ℕ) where
   none-due : lts.Need-returns callees entered deliver-blocks.Post
   none-due c = let a = (c .before .before .before .before .args) in deliver-nothing (a .owner .0) (a .due) (a .map .now) (a .pool .now) (a .out .now) (omega arith)
 
-  -- past the second test: the owner's first block starts inside the pool
+  -- past the last test of the block: it starts inside the pool
   inside : (c : lts.Then3 callees entered deliver-blocks.Post) → 256 * (c .before .before .before .scan .result) < length (c .before .before .before .before .before .before .before .before .args .pool .now)
   inside c = starts (c .before .before .before .scan .result) (length (c .before .before .before .before .before .before .before .before .args .pool .now)) (c .before .starts-inside .ensures) (c .if3 .taken)
 
+  -- the call of itself
   fewer-due : lts.Need-deliver-blocks-requires callees entered deliver-blocks.Post
   fewer-due c κs =
       let e = (c .before .before .before .before .before .before .before .before .before .before .before .before .before .before .before .before .before .before .before) in
       let s = (c .before .before .before .before .before .before .before .before .before) in
       (rw (← (e .pre .0)) (due-falls (omega (arith, c .before .before .before .before .before .before .before .before .before .before .before .before .before .before .before .if1 .left)) (inside (c .before .before .before .before .before .before .before .before .before .before .before)) (s .before .least .ensures) (s .least2 .ensures)), search needs)
 
-  -- the rest went to what is behind in out; out ends with this block
+  -- the returns: the rest went to what is behind in out, out ends with this block, the block is not in the pool, there is no block
   goes-on : lts.Need-returns-2 callees entered deliver-blocks.Post
   goes-on c =
       let s = (c .before .before .before .before .before .before .before .before .before .before .before .before) in

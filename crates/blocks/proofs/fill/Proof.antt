@@ -24,7 +24,7 @@ loop-holds c = record {
   rest = refl;
 }
 
--- past the second test: the block starts inside the pool
+-- past the last test of the block: it starts inside the pool
 inside : (c : tie.Then2 Inv-loop μ-loop) → 256 * (c .before .before .before .before .before .before .loop .b + c .before .before .before .scan .result) < length (c .before .before .before .before .before .before .loop .pool)
 inside c = filling-starts (c .before .before .before .before .before .before .loop .inv) (c .before .before .before .scan .ensures) (c .before .starts-inside .ensures) (c .if2 .taken)
 
