@@ -1,20 +1,20 @@
 -- The laws of the blocks' bytes, for any map and any pool: what an append, a claim, a release and a delivery do to each owner's bytes.
 -- By induction along the map, a block at a time. Assumes nothing.
-use Prim.Native.Nat.{ℕ, suc, _+_, _-_, _*_, _≤_, _<_}
+use Prim.Native.Nat.{ℕ, suc, _+_, _-_, _*_, _≤_}
 use mathlib.Core.Path.{_≡_, refl, ap, ap₂, sym, _∙_}
 use mathlib.Core.Logic.{_≢_}
 use mathlib.Core.List.{List, [], _∷_, _++_, append-nil}
 use native.Mathlib.Omega.{arith}
 use lib.Dec.{eqb}
-use lib.ListN.{length, take, drop, length-append, length-take, length-drop, drop-of-length-le, take-append-drop}
-use lib.Seq.{take-nil, take-all, take-at, drop-at, drop-drop, length-take-le, take-append-add}
+use lib.ListN.{length, take, drop, length-append, length-take, length-drop, drop-of-length-le}
+use lib.Seq.{take-all, take-at, drop-at, drop-drop, length-take-le}
 use borrow.Author.Tests.{eq-eqb, ne-eqb}
 use Rattle.numbers.specs.Bytes.{pick, laid}
 use Rattle.numbers.proofs.Choices.{split, same-or-not}
 use Rattle.blocks.specs.Map.{blockSize, free, heldBy, claimed, released, numbersFrom, blockNumbers, Outside}
 use Rattle.blocks.specs.Pool.{blockBytes, over, appended, delivered, joined}
 use Rattle.blocks.proofs.Over.{compare, over-length, over-append, over-adds, over-front}
-use Rattle.blocks.proofs.Counts.{held-mine, held-not, claim-taken, claim-enough, claim-held, claim-cases, release-hit, release-below, release-above, release-cases, numbers-mine, numbers-not}
+use Rattle.blocks.proofs.Counts.{held-mine, held-not, claim-cases, release-cases, numbers-mine, numbers-not}
 
 -- ---- worked cases, by computation; a pool of a few bytes is a first block cut short
 
@@ -56,23 +56,15 @@ pub nil-of : (l : List ℕ) → length l ≡ 0 → l ≡ []
 nil-of [] e = refl
 nil-of (x ∷ l) e = absurd (omega arith)
 
-module _ (block rest pool : List ℕ) (same : length block ≡ length (take blockSize pool)) (left : length rest ≡ length (drop blockSize pool)) where
-  pub front-block : take blockSize (block ++ rest) ≡ block
-  front-block =
-      compare blockSize (length pool)
-      (λ h. take-at block rest blockSize (same ∙ length-take-le blockSize pool h))
-      (λ h.
-      let none : rest ≡ [] = nil-of rest (omega (arith, length-drop blockSize pool)) in
-      rw (none, append-nil) (take-all blockSize block (omega (arith, length-take blockSize pool))))
-
-  pub behind-block : drop blockSize (block ++ rest) ≡ rest
-  behind-block =
-      compare blockSize (length pool)
-      (λ h. drop-at block rest blockSize (same ∙ length-take-le blockSize pool h))
-      (λ h.
-      let none : rest ≡ [] = nil-of rest (omega (arith, length-drop blockSize pool)) in
-      let short : length block ≤ blockSize = omega (arith, length-take blockSize pool) in
-      rw (none, append-nil) (drop-of-length-le block {i = blockSize} short))
+pub block-and-rest : (block rest pool : List ℕ) → length block ≡ length (take blockSize pool) → length rest ≡ length (drop blockSize pool)
+    → (take blockSize (block ++ rest) ≡ block) × (drop blockSize (block ++ rest) ≡ rest)
+block-and-rest block rest pool same left =
+    compare blockSize (length pool)
+    (λ h. let full : length block ≡ blockSize = same ∙ length-take-le blockSize pool h in (take-at block rest blockSize full, drop-at block rest blockSize full))
+    (λ h.
+    let none : rest ≡ [] = nil-of rest (omega (arith, length-drop blockSize pool)) in
+    let short : length block ≤ blockSize = omega (arith, length-take blockSize pool) in
+    rw (none, append-nil block) (take-all blockSize block short, drop-of-length-le block {i = blockSize} short))
 
 -- ---- how long
 
@@ -87,20 +79,23 @@ bytes-length owner (o ∷ map) pool h =
     (λ e. ap length (bytes-mine owner o map pool e) ∙ length-append (take blockSize pool) _ ∙ omega (arith, held-mine owner o map e))
     (λ e. ap length (bytes-not owner o map pool e) ∙ omega (arith, held-not owner o map e))
 
+-- an append, by its first block: what that is afterwards, and the append to the blocks behind it
+by-block : {X : Type 0} (owner at o : ℕ) (s map pool : List ℕ)
+    → ((block : List ℕ) (place : ℕ) (later : List ℕ) → appended owner at s (o ∷ map) pool ≡ block ++ appended owner place later map (drop blockSize pool)
+    → length block ≡ length (take blockSize pool) → (o ≢ owner → block ≡ take blockSize pool) → X) → X
+by-block owner at o s map pool f =
+    same-or-not o owner
+    (λ e. f (over at s (take blockSize pool)) (at - blockSize) (drop (blockSize - at) s) (append-mine owner at o s map pool e) (over-length at s (take blockSize pool)) (λ d. absurd (d e)))
+    (λ e. f (take blockSize pool) at s (append-not owner at o s map pool e) refl (λ d. refl))
+
 -- an append changes no length
 pub append-length : (owner at : ℕ) (s map pool : List ℕ) → length (appended owner at s map pool) ≡ length pool
 unfolding appended
 append-length owner at s [] pool = refl
 append-length owner at s (o ∷ map) pool =
-    let whole : length (take blockSize pool) + length (drop blockSize pool) ≡ length pool =
-    sym (length-append (take blockSize pool) (drop blockSize pool)) ∙ ap length (take-append-drop blockSize pool) in
-    same-or-not o owner
-    (λ e.
-    ap length (append-mine owner at o s map pool e) ∙ length-append (over at s (take blockSize pool)) _
-    ∙ omega (arith, over-length at s (take blockSize pool), append-length owner (at - blockSize) (drop (blockSize - at) s) map (drop blockSize pool)))
-    (λ e.
-    ap length (append-not owner at o s map pool e) ∙ length-append (take blockSize pool) _
-    ∙ omega (arith, append-length owner at s map (drop blockSize pool)))
+    by-block owner at o s map pool λ block place later is same other.
+    ap length is ∙ length-append block _
+    ∙ omega (arith, append-length owner place later map (drop blockSize pool), length-take blockSize pool, length-drop blockSize pool)
 
 -- ---- appending
 
@@ -132,14 +127,14 @@ append-bytes owner at s (o ∷ map) pool =
     let same = over-length at s (take blockSize pool) in
     let left = append-length owner at₂ s₂ map (drop blockSize pool) in
     ap (blockBytes owner (o ∷ map)) (append-mine owner at o s map pool e) ∙ bytes-mine owner o map (block ++ rest) e
-    ∙ ap₂ (λ (a b : List ℕ). a ++ blockBytes owner map b) (front-block block rest pool same left) (behind-block block rest pool same left)
+    ∙ ap₂ (λ (a b : List ℕ). a ++ blockBytes owner map b) (block-and-rest block rest pool same left .0) (block-and-rest block rest pool same left .1)
     ∙ ap (λ (t : List ℕ). block ++ t) (append-bytes owner at₂ s₂ map (drop blockSize pool) ∙ whole-or-last owner at s map pool)
     ∙ sym (over-append at s (take blockSize pool) old) ∙ ap (over at s) (sym (bytes-mine owner o map pool e)))
     (λ e.
     let rest : List ℕ = appended owner at s map (drop blockSize pool) in
     let left = append-length owner at s map (drop blockSize pool) in
     ap (blockBytes owner (o ∷ map)) (append-not owner at o s map pool e) ∙ bytes-not owner o map (take blockSize pool ++ rest) e
-    ∙ ap (blockBytes owner map) (behind-block (take blockSize pool) rest pool refl left) ∙ append-bytes owner at s map (drop blockSize pool)
+    ∙ ap (blockBytes owner map) (block-and-rest (take blockSize pool) rest pool refl left .1) ∙ append-bytes owner at s map (drop blockSize pool)
     ∙ ap (over at s) (sym (bytes-not owner o map pool e)))
 
 -- where the payload fits, it stands right behind the first `at` bytes
@@ -157,47 +152,17 @@ pub append-others : (other owner at : ℕ) (s map pool : List ℕ) → other ≢
 unfolding blockBytes
 append-others other owner at s [] pool d = refl
 append-others other owner at s (o ∷ map) pool d =
-    same-or-not o owner
+    by-block owner at o s map pool λ block place later is same stays.
+    let rest : List ℕ = appended owner place later map (drop blockSize pool) in
+    let left = append-length owner place later map (drop blockSize pool) in
+    let behind : blockBytes other map (drop blockSize (block ++ rest)) ≡ blockBytes other map (drop blockSize pool) =
+    ap (blockBytes other map) (block-and-rest block rest pool same left .1) ∙ append-others other owner place later map (drop blockSize pool) d in
+    ap (blockBytes other (o ∷ map)) is
+    ∙ same-or-not o other
     (λ e.
-    let block : List ℕ = over at s (take blockSize pool) in
-    let rest : List ℕ = appended owner (at - blockSize) (drop (blockSize - at) s) map (drop blockSize pool) in
-    let same = over-length at s (take blockSize pool) in
-    let left = append-length owner (at - blockSize) (drop (blockSize - at) s) map (drop blockSize pool) in
-    let not : o ≢ other = λ w. d (sym w ∙ e) in
-    ap (blockBytes other (o ∷ map)) (append-mine owner at o s map pool e) ∙ bytes-not other o map (block ++ rest) not
-    ∙ ap (blockBytes other map) (behind-block block rest pool same left)
-    ∙ append-others other owner (at - blockSize) (drop (blockSize - at) s) map (drop blockSize pool) d
-    ∙ sym (bytes-not other o map pool not))
-    (λ e.
-    let rest : List ℕ = appended owner at s map (drop blockSize pool) in
-    let left = append-length owner at s map (drop blockSize pool) in
-    ap (blockBytes other (o ∷ map)) (append-not owner at o s map pool e)
-    ∙ ap₂ (λ (a b : List ℕ). pick (eqb o other) (a ++ blockBytes other map b) (blockBytes other map b))
-    (front-block (take blockSize pool) rest pool refl left) (behind-block (take blockSize pool) rest pool refl left)
-    ∙ ap (λ (b : List ℕ). pick (eqb o other) (take blockSize pool ++ b) b) (append-others other owner at s map (drop blockSize pool) d))
-
--- the bytes behind the last block stay
-pub append-behind : (owner at : ℕ) (s map pool : List ℕ) → drop (blockSize * length map) (appended owner at s map pool) ≡ drop (blockSize * length map) pool
-unfolding appended
-append-behind owner at s [] pool = refl
-append-behind owner at s (o ∷ map) pool =
-    let n : blockSize * suc (length map) ≡ blockSize + blockSize * length map = omega arith in
-    same-or-not o owner
-    (λ e.
-    let block : List ℕ = over at s (take blockSize pool) in
-    let rest : List ℕ = appended owner (at - blockSize) (drop (blockSize - at) s) map (drop blockSize pool) in
-    let same = over-length at s (take blockSize pool) in
-    let left = append-length owner (at - blockSize) (drop (blockSize - at) s) map (drop blockSize pool) in
-    rw n (ap (drop (blockSize + blockSize * length map)) (append-mine owner at o s map pool e)
-    ∙ sym (drop-drop (blockSize * length map) blockSize (block ++ rest)) ∙ ap (drop (blockSize * length map)) (behind-block block rest pool same left)
-    ∙ append-behind owner (at - blockSize) (drop (blockSize - at) s) map (drop blockSize pool) ∙ drop-drop (blockSize * length map) blockSize pool))
-    (λ e.
-    let rest : List ℕ = appended owner at s map (drop blockSize pool) in
-    let left = append-length owner at s map (drop blockSize pool) in
-    rw n (ap (drop (blockSize + blockSize * length map)) (append-not owner at o s map pool e)
-    ∙ sym (drop-drop (blockSize * length map) blockSize (take blockSize pool ++ rest))
-    ∙ ap (drop (blockSize * length map)) (behind-block (take blockSize pool) rest pool refl left)
-    ∙ append-behind owner at s map (drop blockSize pool) ∙ drop-drop (blockSize * length map) blockSize pool))
+    let here : take blockSize (block ++ rest) ≡ take blockSize pool = block-and-rest block rest pool same left .0 ∙ stays (λ w. d (sym e ∙ w)) in
+    bytes-mine other o map (block ++ rest) e ∙ ap₂ (λ (a b : List ℕ). a ++ b) here behind ∙ sym (bytes-mine other o map pool e))
+    (λ e. bytes-not other o map (block ++ rest) e ∙ behind ∙ sym (bytes-not other o map pool e))
 
 -- ---- claiming and releasing: the pool is not touched
 
@@ -206,58 +171,13 @@ pub claim-bytes : (other owner n : ℕ) (map pool : List ℕ) → other ≢ owne
 unfolding blockBytes claimed
 claim-bytes other owner n [] pool d z = refl
 claim-bytes other owner n (o ∷ map) pool d z =
-    claim-cases n o
-    (λ e g.
-    ap (λ (m : List ℕ). blockBytes other m pool) (claim-taken owner n o map e g) ∙ bytes-not other owner (claimed owner (n - 1) map) pool (λ w. d (sym w))
+    claim-cases owner n o map
+    (λ e g q.
+    ap (λ (m : List ℕ). blockBytes other m pool) q ∙ bytes-not other owner (claimed owner (n - 1) map) pool (λ w. d (sym w))
     ∙ claim-bytes other owner (n - 1) map (drop blockSize pool) d z ∙ sym (bytes-not other o map pool (λ w. z (sym w ∙ e))))
-    (λ e g.
-    ap (λ (m : List ℕ). blockBytes other m pool) (claim-enough owner n o map g)
+    (λ m q.
+    ap (λ (l : List ℕ). blockBytes other l pool) q
     ∙ ap (λ (b : List ℕ). pick (eqb o other) (take blockSize pool ++ b) b) (claim-bytes other owner n map (drop blockSize pool) d z))
-    (λ e.
-    ap (λ (m : List ℕ). blockBytes other m pool) (claim-held owner n o map e)
-    ∙ ap (λ (b : List ℕ). pick (eqb o other) (take blockSize pool ++ b) b) (claim-bytes other owner n map (drop blockSize pool) d z))
-
--- the first blocks of a pool: one block, and n - 1 of what is behind it
-take-blocks : (n : ℕ) (pool rest : List ℕ) → 0 < n → (length pool < blockSize → rest ≡ [])
-    → take blockSize pool ++ take (blockSize * (n - 1)) rest ≡ take (blockSize * n) (take blockSize pool ++ rest)
-take-blocks n pool rest h none =
-    compare blockSize (length pool)
-    (λ g.
-    let full : length (take blockSize pool) ≡ blockSize = length-take-le blockSize pool g in
-    let e : blockSize * n ≡ length (take blockSize pool) + blockSize * (n - 1) = omega arith in
-    rw e (sym (take-append-add (take blockSize pool) rest (blockSize * (n - 1)))))
-    (λ g.
-    let short : length (take blockSize pool) ≤ blockSize * n = omega (arith, length-take blockSize pool) in
-    rw (none g, take-nil (blockSize * (n - 1)), append-nil (take blockSize pool)) (sym (take-all (blockSize * n) (take blockSize pool) short)))
-
--- a new owner's bytes are those of the lowest n free blocks, as they were
-pub claim-found : (owner n : ℕ) (map pool : List ℕ) → owner ≢ free → heldBy owner map ≡ 0
-    → blockBytes owner (claimed owner n map) pool ≡ take (blockSize * n) (blockBytes free map pool)
-unfolding blockBytes claimed
-claim-found owner n [] pool h z = sym (take-nil (blockSize * n))
-claim-found owner n (o ∷ map) pool h z =
-    claim-cases n o
-    (λ e g.
-    let left : heldBy owner map ≡ 0 = sym (held-not owner o map (λ w. h (sym w ∙ e))) ∙ z in
-    ap (λ (m : List ℕ). blockBytes owner m pool) (claim-taken owner n o map e g) ∙ bytes-mine owner owner (claimed owner (n - 1) map) pool refl
-    ∙ ap (λ (b : List ℕ). take blockSize pool ++ b) (claim-found owner (n - 1) map (drop blockSize pool) h left)
-    ∙ take-blocks n pool (blockBytes free map (drop blockSize pool)) g (λ s. behind s)
-    ∙ ap (take (blockSize * n)) (sym (bytes-mine free o map pool e)))
-    (λ e g.
-    let left : heldBy owner map ≡ 0 = sym (held-not owner o map (λ w. h (sym w ∙ e))) ∙ z in
-    let none : blockSize * n ≡ 0 = omega arith in
-    ap (λ (m : List ℕ). blockBytes owner m pool) (claim-enough owner n o map g) ∙ bytes-not owner o (claimed owner n map) pool (λ w. h (sym w ∙ e))
-    ∙ claim-found owner n map (drop blockSize pool) h left ∙ rw none)
-    (λ e.
-    let other : o ≢ owner = λ w. omega (arith, held-mine owner o map w) in
-    let left : heldBy owner map ≡ 0 = sym (held-not owner o map other) ∙ z in
-    ap (λ (m : List ℕ). blockBytes owner m pool) (claim-held owner n o map e) ∙ bytes-not owner o (claimed owner n map) pool other
-    ∙ claim-found owner n map (drop blockSize pool) h left ∙ ap (take (blockSize * n)) (sym (bytes-not free o map pool e)))
-  where
-    behind : length pool < blockSize → blockBytes free map (drop blockSize pool) ≡ []
-    behind s =
-        let short : length pool ≤ blockSize = omega arith in
-        rw (drop-of-length-le pool {i = blockSize} short) (bytes-none free map)
 
 -- a release leaves the bytes of every owner that is not released
 pub release-bytes : (low high other : ℕ) (map pool : List ℕ) → other ≢ free → Outside low high other → blockBytes other (released low high map) pool ≡ blockBytes other map pool
@@ -265,13 +185,11 @@ unfolding blockBytes released
 release-bytes low high other [] pool h d = refl
 release-bytes low high other (o ∷ map) pool h d =
     let ih = release-bytes low high other map (drop blockSize pool) h d in
-    let same : blockBytes other (o ∷ released low high map) pool ≡ blockBytes other (o ∷ map) pool = ap (λ (b : List ℕ). pick (eqb o other) (take blockSize pool ++ b) b) ih in
-    release-cases low high o
-    (λ p q.
-    ap (λ (m : List ℕ). blockBytes other m pool) (release-hit low high o map p q) ∙ bytes-not other free (released low high map) pool (λ w. h (sym w)) ∙ ih
-    ∙ sym (bytes-not other o map pool (λ w. d (rw w at p) (rw w at q))))
-    (λ p. ap (λ (m : List ℕ). blockBytes other m pool) (release-below low high o map p) ∙ same)
-    (λ p. ap (λ (m : List ℕ). blockBytes other m pool) (release-above low high o map p) ∙ same)
+    release-cases low high o map
+    (λ p r q.
+    ap (λ (m : List ℕ). blockBytes other m pool) q ∙ bytes-not other free (released low high map) pool (λ w. h (sym w)) ∙ ih
+    ∙ sym (bytes-not other o map pool (λ w. d (rw w at p) (rw w at r))))
+    (λ n q. ap (λ (m : List ℕ). blockBytes other m pool) q ∙ ap (λ (b : List ℕ). pick (eqb o other) (take blockSize pool ++ b) b) ih)
 
 -- ---- delivery
 

@@ -1,18 +1,18 @@
 -- The laws of the block map, for any map: how many blocks each owner has after a claim and after a release, and which.
 -- By induction along the map. Assumes nothing.
-use Prim.Native.Nat.{ℕ, zero, suc, _+_, _-_, _*_, _≤_, _<_, min}
-use mathlib.Core.Path.{_≡_, refl, ap, ap₂, sym, _∙_}
+use Prim.Native.Nat.{ℕ, zero, suc, _+_, _-_, _≤_, _<_, min}
+use mathlib.Core.Path.{_≡_, refl, ap, sym, _∙_}
 use mathlib.Core.Logic.{_≢_}
 use mathlib.Core.Bool.{_&&_}
 use mathlib.Core.List.{List, [], _∷_}
 use native.Mathlib.Omega.{arith}
 use lib.Dec.{eqb, ltb, leb}
-use lib.ListN.{length, take, drop, getD, replicate, length-replicate}
+use lib.ListN.{length, take, drop, getD}
 use lib.Seq.{take-nil}
-use borrow.Author.Tests.{eqb-true, eqb-false, eq-eqb, ne-eqb, ltb-true, ltb-false, leb-true, leb-false, le-leb, lt-leb, lt-ltb, le-ltb}
-use Rattle.numbers.specs.Bytes.{pick, AreBytes}
-use Rattle.numbers.proofs.Choices.{split}
-use Rattle.blocks.specs.Map.{blockSize, blockCount, free, neededFor, freeMap, heldBy, heldByAll, freeIn, claimed, released, numbersFrom, blockNumbers, placeOf, Below, Outside}
+use borrow.Author.Tests.{eqb-true, eqb-false, eq-eqb, ne-eqb, ltb-true, ltb-false, leb-true, leb-false, lt-ltb}
+use Rattle.numbers.specs.Bytes.{pick}
+use Rattle.numbers.proofs.Choices.{split, same-or-not}
+use Rattle.blocks.specs.Map.{free, neededFor, heldBy, heldByAll, freeIn, claimed, released, numbersFrom, blockNumbers, placeOf, Below, Outside}
 
 -- ---- worked cases, by computation: before the laws, so that a changed definition is told by its values
 
@@ -32,25 +32,6 @@ places : blockNumbers 5 (5 ∷ 3 ∷ 5 ∷ 4 ∷ 5 ∷ []) ∷ (heldBy 5 (5 ∷ 
 unfolding numbersFrom heldBy placeOf
 places = refl
 
--- ---- blocks for so many bytes
-
--- enough, and not one more than that
-pub needed-enough : (total : ℕ) → total ≤ blockSize * neededFor total
-unfolding neededFor
-needed-enough total = omega arith
-
-pub needed-least : (total : ℕ) → blockSize * neededFor total < total + blockSize
-unfolding neededFor
-needed-least total = omega arith
-
-pub needed-some : (total : ℕ) → 0 < total → 0 < neededFor total
-unfolding neededFor
-needed-some total h = omega arith
-
-pub needed-most : (total : ℕ) → total ≤ blockSize * blockCount → neededFor total ≤ blockCount
-unfolding neededFor
-needed-most total h = omega arith
-
 -- ---- the count of one entry
 
 -- one entry more
@@ -68,58 +49,31 @@ unfolding heldBy
 held-most owner [] = omega arith
 held-most owner (o ∷ map) = split (eqb o owner) (λ e. rw e (omega (arith, held-most owner map))) (λ e. rw e (omega (arith, held-most owner map)))
 
--- ---- the map with every block free
-
-pub free-map-length : length freeMap ≡ blockCount
-unfolding freeMap
-free-map-length = length-replicate blockCount free
-
-all-free : (n : ℕ) → heldBy free (replicate n free) ≡ n
-unfolding heldBy
-all-free zero = refl
-all-free (suc n) = omega (arith, all-free n)
-
-none-held : (owner n : ℕ) → owner ≢ free → heldBy owner (replicate n free) ≡ 0
-unfolding heldBy
-none-held owner zero h = refl
-none-held owner (suc n) h = held-not owner free (replicate n free) (λ e. h (sym e)) ∙ none-held owner n h
-
-pub free-map-free : freeIn freeMap ≡ blockCount
-unfolding freeMap
-free-map-free = all-free blockCount
-
-pub free-map-held : (owner : ℕ) → owner ≢ free → heldBy owner freeMap ≡ 0
-unfolding freeMap
-free-map-held owner h = none-held owner blockCount h
-
 -- ---- claiming
 
--- the three cases of an entry: it is taken; it is free and nothing is left to claim; it is not free
+-- an entry that is taken, and one that is not free
 pub claim-taken : (owner n o : ℕ) (map : List ℕ) → o ≡ free → 0 < n → claimed owner n (o ∷ map) ≡ owner ∷ claimed owner (n - 1) map
 unfolding claimed
 claim-taken owner n o map e h = rw (eq-eqb o free e, lt-ltb 0 n h)
-
-pub claim-enough : (owner n o : ℕ) (map : List ℕ) → n ≡ 0 → claimed owner n (o ∷ map) ≡ o ∷ claimed owner n map
-unfolding claimed
-claim-enough owner n o map e =
-    split (eqb o free) (λ t. rw (t, le-ltb 0 n (omega arith))) (λ t. rw t)
 
 pub claim-held : (owner n o : ℕ) (map : List ℕ) → o ≢ free → claimed owner n (o ∷ map) ≡ o ∷ claimed owner n map
 unfolding claimed
 claim-held owner n o map h = rw (ne-eqb o free h)
 
--- cases on an entry of a claim
-pub claim-cases : {X : Type 0} (n o : ℕ) → (o ≡ free → 0 < n → X) → (o ≡ free → n ≡ 0 → X) → (o ≢ free → X) → X
-claim-cases n o f g h =
+-- the cases of an entry: it is taken, or it stays, since it is not free or nothing is left to claim
+pub claim-cases : {X : Type 0} (owner n o : ℕ) (map : List ℕ) → (o ≡ free → 0 < n → claimed owner n (o ∷ map) ≡ owner ∷ claimed owner (n - 1) map → X)
+    → (min n (pick (eqb o free) 1 0) ≡ 0 → claimed owner n (o ∷ map) ≡ o ∷ claimed owner n map → X) → X
+unfolding claimed
+claim-cases owner n o map f g =
     split (eqb o free)
-    (λ e. split (ltb 0 n) (λ t. f (eqb-true o free e) (ltb-true 0 n t)) (λ t. g (eqb-true o free e) (omega (arith, ltb-false 0 n t))))
-    (λ e. h (eqb-false o free e))
+    (λ e. split (ltb 0 n) (λ t. f (eqb-true o free e) (ltb-true 0 n t) (rw (e, t))) (λ t. g (rw e (omega (arith, ltb-false 0 n t))) (rw (e, t))))
+    (λ e. g (rw e (omega arith)) (rw e))
 
 -- nothing is claimed
 pub claim-none : (owner : ℕ) (map : List ℕ) → claimed owner 0 map ≡ map
 unfolding claimed
 claim-none owner [] = refl
-claim-none owner (o ∷ map) = claim-enough owner 0 o map refl ∙ ap (λ (t : List ℕ). o ∷ t) (claim-none owner map)
+claim-none owner (o ∷ map) = claim-cases owner 0 o map (λ e g q. absurd (omega arith)) (λ m q. q ∙ ap (λ (t : List ℕ). o ∷ t) (claim-none owner map))
 
 pub claim-length : (owner n : ℕ) (map : List ℕ) → length (claimed owner n map) ≡ length map
 unfolding claimed
@@ -132,81 +86,42 @@ pub claim-gives : (owner n : ℕ) (map : List ℕ) → owner ≢ free → heldBy
 unfolding heldBy claimed
 claim-gives owner n [] h = omega arith
 claim-gives owner n (o ∷ map) h =
-    claim-cases n o
-    (λ e g.
-    ap (heldBy owner) (claim-taken owner n o map e g) ∙ held-mine owner owner (claimed owner (n - 1) map) refl
+    claim-cases owner n o map
+    (λ e g q.
+    ap (heldBy owner) q ∙ held-mine owner owner (claimed owner (n - 1) map) refl
     ∙ omega (arith, claim-gives owner (n - 1) map h, held-not owner o map (λ w. h (sym w ∙ e)), held-mine free o map e))
-    (λ e g.
-    ap (heldBy owner) (claim-enough owner n o map g) ∙ held-not owner o (claimed owner n map) (λ w. h (sym w ∙ e))
-    ∙ omega (arith, claim-gives owner n map h, held-not owner o map (λ w. h (sym w ∙ e)), held-mine free o map e))
-    (λ e.
-    ap (heldBy owner) (claim-held owner n o map e)
-    ∙ split (eqb o owner)
-    (λ t. omega (arith, claim-gives owner n map h, held-mine owner o (claimed owner n map) (eqb-true o owner t), held-mine owner o map (eqb-true o owner t), held-not free o map e))
-    (λ t. omega (arith, claim-gives owner n map h, held-not owner o (claimed owner n map) (eqb-false o owner t), held-not owner o map (eqb-false o owner t), held-not free o map e)))
+    (λ m q. ap (heldBy owner) q ∙ omega (arith, claim-gives owner n map h))
 
 -- so many fewer are free
 pub claim-lowers : (owner n : ℕ) (map : List ℕ) → owner ≢ free → freeIn (claimed owner n map) ≡ freeIn map - n
 unfolding heldBy claimed
 claim-lowers owner n [] h = omega arith
 claim-lowers owner n (o ∷ map) h =
-    claim-cases n o
-    (λ e g.
-    ap (heldBy free) (claim-taken owner n o map e g) ∙ held-not free owner (claimed owner (n - 1) map) h
-    ∙ omega (arith, claim-lowers owner (n - 1) map h, held-mine free o map e))
-    (λ e g.
-    ap (heldBy free) (claim-enough owner n o map g) ∙ held-mine free o (claimed owner n map) e
-    ∙ omega (arith, claim-lowers owner n map h, held-mine free o map e))
-    (λ e.
-    ap (heldBy free) (claim-held owner n o map e) ∙ held-not free o (claimed owner n map) e
-    ∙ omega (arith, claim-lowers owner n map h, held-not free o map e))
+    claim-cases owner n o map
+    (λ e g q. ap (heldBy free) q ∙ held-not free owner (claimed owner (n - 1) map) h ∙ omega (arith, claim-lowers owner (n - 1) map h, held-mine free o map e))
+    (λ m q. ap (heldBy free) q ∙ omega (arith, claim-lowers owner n map h))
 
 -- every other owner has as many as before
 pub claim-leaves : (other owner n : ℕ) (map : List ℕ) → other ≢ owner → other ≢ free → heldBy other (claimed owner n map) ≡ heldBy other map
 unfolding heldBy claimed
 claim-leaves other owner n [] d z = refl
 claim-leaves other owner n (o ∷ map) d z =
-    claim-cases n o
-    (λ e g.
-    ap (heldBy other) (claim-taken owner n o map e g) ∙ held-not other owner (claimed owner (n - 1) map) (λ w. d (sym w))
+    claim-cases owner n o map
+    (λ e g q.
+    ap (heldBy other) q ∙ held-not other owner (claimed owner (n - 1) map) (λ w. d (sym w))
     ∙ claim-leaves other owner (n - 1) map d z ∙ sym (held-not other o map (λ w. z (sym w ∙ e))))
-    (λ e g. ap (heldBy other) (claim-enough owner n o map g) ∙ ap (λ (k : ℕ). pick (eqb o other) 1 0 + k) (claim-leaves other owner n map d z))
-    (λ e. ap (heldBy other) (claim-held owner n o map e) ∙ ap (λ (k : ℕ). pick (eqb o other) 1 0 + k) (claim-leaves other owner n map d z))
-
--- if n are free, a new owner has exactly n blocks, and n fewer are free
-pub record Claims (owner n : ℕ) (map after : List ℕ) : Type 0 where
-  pub holds : heldBy owner after ≡ n
-  pub spare : freeIn after + n ≡ freeIn map
-  pub others : (other : ℕ) → other ≢ owner → other ≢ free → heldBy other after ≡ heldBy other map
-  pub size : length after ≡ length map
-
-pub claim-new : (owner n : ℕ) (map : List ℕ) → owner ≢ free → heldBy owner map ≡ 0 → n ≤ freeIn map → Claims owner n map (claimed owner n map)
-claim-new owner n map h e g = record {
-  holds = omega (arith, claim-gives owner n map h);
-  spare = omega (arith, claim-lowers owner n map h);
-  others = λ other d z. claim-leaves other owner n map d z;
-  size = claim-length owner n map;
-}
+    (λ m q. ap (heldBy other) q ∙ omega (arith, claim-leaves other owner n map d z))
 
 -- ---- releasing
 
-pub release-hit : (low high o : ℕ) (map : List ℕ) → low ≤ o → o ≤ high → released low high (o ∷ map) ≡ free ∷ released low high map
+-- the cases of an entry: it is freed, or it stays
+pub release-cases : {X : Type 0} (low high o : ℕ) (map : List ℕ) → (low ≤ o → o ≤ high → released low high (o ∷ map) ≡ free ∷ released low high map → X)
+    → (Outside low high o → released low high (o ∷ map) ≡ o ∷ released low high map → X) → X
 unfolding released
-release-hit low high o map a b = rw (le-leb low o a, le-leb o high b)
-
-pub release-below : (low high o : ℕ) (map : List ℕ) → o < low → released low high (o ∷ map) ≡ o ∷ released low high map
-unfolding released
-release-below low high o map a = rw (lt-leb low o a)
-
-pub release-above : (low high o : ℕ) (map : List ℕ) → high < o → released low high (o ∷ map) ≡ o ∷ released low high map
-unfolding released
-release-above low high o map a = split (leb low o) (λ e. rw (e, lt-leb o high a)) (λ e. rw e)
-
-pub release-cases : {X : Type 0} (low high o : ℕ) → (low ≤ o → o ≤ high → X) → (o < low → X) → (high < o → X) → X
-release-cases low high o f g h =
+release-cases low high o map f g =
     split (leb low o)
-    (λ e. split (leb o high) (λ t. f (leb-true low o e) (leb-true o high t)) (λ t. h (leb-false o high t)))
-    (λ e. g (leb-false low o e))
+    (λ e. split (leb o high) (λ t. f (leb-true low o e) (leb-true o high t) (rw (e, t))) (λ t. g (λ a b. omega (arith, leb-false o high t)) (rw (e, t))))
+    (λ e. g (λ a b. omega (arith, leb-false low o e)) (rw e))
 
 pub release-length : (low high : ℕ) (map : List ℕ) → length (released low high map) ≡ length map
 unfolding released
@@ -219,10 +134,9 @@ unfolding heldBy released
 release-takes low high owner [] h a b = refl
 release-takes low high owner (o ∷ map) h a b =
     let ih = release-takes low high owner map h a b in
-    release-cases low high o
-    (λ p q. ap (heldBy owner) (release-hit low high o map p q) ∙ held-not owner free (released low high map) (λ w. h (sym w)) ∙ ih)
-    (λ p. ap (heldBy owner) (release-below low high o map p) ∙ held-not owner o (released low high map) (omega arith) ∙ ih)
-    (λ p. ap (heldBy owner) (release-above low high o map p) ∙ held-not owner o (released low high map) (omega arith) ∙ ih)
+    release-cases low high o map
+    (λ p r q. ap (heldBy owner) q ∙ held-not owner free (released low high map) (λ w. h (sym w)) ∙ ih)
+    (λ d q. ap (heldBy owner) q ∙ held-not owner o (released low high map) (λ w. d (omega arith) (omega arith)) ∙ ih)
 
 -- every other owner has as many as before
 pub release-leaves : (low high other : ℕ) (map : List ℕ) → other ≢ free → Outside low high other → heldBy other (released low high map) ≡ heldBy other map
@@ -230,13 +144,9 @@ unfolding heldBy released
 release-leaves low high other [] h d = refl
 release-leaves low high other (o ∷ map) h d =
     let ih = release-leaves low high other map h d in
-    let same : pick (eqb o other) 1 0 + heldBy other (released low high map) ≡ heldBy other (o ∷ map) = ap (λ (k : ℕ). pick (eqb o other) 1 0 + k) ih in
-    release-cases low high o
-    (λ p q.
-    ap (heldBy other) (release-hit low high o map p q) ∙ held-not other free (released low high map) (λ w. h (sym w)) ∙ ih
-    ∙ sym (held-not other o map (λ w. d (rw w at p) (rw w at q))))
-    (λ p. ap (heldBy other) (release-below low high o map p) ∙ same)
-    (λ p. ap (heldBy other) (release-above low high o map p) ∙ same)
+    release-cases low high o map
+    (λ p r q. ap (heldBy other) q ∙ held-not other free (released low high map) (λ w. h (sym w)) ∙ ih ∙ sym (held-not other o map (λ w. d (rw w at p) (rw w at r))))
+    (λ n q. ap (heldBy other) q ∙ omega (arith, ih))
 
 -- how many of the owners from `first` on hold a block: one entry more
 all-miss : (first n o : ℕ) (map : List ℕ) → (first ≤ o → o < first + n → ⊥) → heldByAll first n (o ∷ map) ≡ heldByAll first n map
@@ -264,12 +174,11 @@ unfolding heldBy released
 release-raises low high [] h = omega (arith, all-none low (suc high - low))
 release-raises low high (o ∷ map) h =
     let ih = release-raises low high map h in
-    release-cases low high o
-    (λ p q.
-    ap (heldBy free) (release-hit low high o map p q) ∙ held-mine free free (released low high map) refl
+    release-cases low high o map
+    (λ p r q.
+    ap (heldBy free) q ∙ held-mine free free (released low high map) refl
     ∙ omega (arith, ih, held-not free o map (omega arith), all-hit low (suc high - low) o map p (omega arith)))
-    (λ p. ap (heldBy free) (release-below low high o map p) ∙ omega (arith, ih, all-miss low (suc high - low) o map (omega arith)))
-    (λ p. ap (heldBy free) (release-above low high o map p) ∙ omega (arith, ih, all-miss low (suc high - low) o map (omega arith)))
+    (λ d q. ap (heldBy free) q ∙ omega (arith, ih, all-miss low (suc high - low) o map (λ a b. d a (omega arith))))
 
 -- one owner's blocks
 pub release-one : (owner : ℕ) (map : List ℕ) → owner ≢ free → freeIn (released owner owner map) ≡ freeIn map + heldBy owner map
@@ -285,14 +194,6 @@ pub counts-below : (bound : ℕ) (map : List ℕ) → Below bound map → heldBy
 counts-below bound [] h = all-none 0 bound
 counts-below bound (o ∷ map) h = all-hit 0 bound o map (omega arith) (omega arith) ∙ ap suc (counts-below bound map (h .1))
 
--- the bytes of a slice are owners below 256
-pub counts-all : (map : List ℕ) → AreBytes map → heldByAll 0 256 map ≡ length map
-counts-all map h = counts-below 256 map (bytes-below map h)
-  where
-    bytes-below : (map : List ℕ) → AreBytes map → Below 256 map
-    bytes-below [] h = tt
-    bytes-below (o ∷ map) h = (h .0, bytes-below map (h .1))
-
 -- ---- block numbers
 
 pub numbers-mine : (b owner o : ℕ) (map : List ℕ) → o ≡ owner → numbersFrom b owner (o ∷ map) ≡ b ∷ numbersFrom (suc b) owner map
@@ -303,37 +204,24 @@ pub numbers-not : (b owner o : ℕ) (map : List ℕ) → o ≢ owner → numbers
 unfolding numbersFrom
 numbers-not b owner o map h = rw (ne-eqb o owner h)
 
--- as many as blocks are held
-pub numbers-length : (b owner : ℕ) (map : List ℕ) → length (numbersFrom b owner map) ≡ heldBy owner map
-unfolding numbersFrom heldBy
-numbers-length b owner [] = refl
-numbers-length b owner (o ∷ map) =
-    split (eqb o owner)
-    (λ e. rw e (omega (arith, numbers-length (suc b) owner map)))
-    (λ e. rw e (omega (arith, numbers-length (suc b) owner map)))
-
 -- a new owner's blocks are the lowest n of the free ones
 pub claim-lowest : (b owner n : ℕ) (map : List ℕ) → owner ≢ free → heldBy owner map ≡ 0 → numbersFrom b owner (claimed owner n map) ≡ take n (numbersFrom b free map)
 unfolding numbersFrom claimed
 claim-lowest b owner n [] h z = sym (take-nil n)
 claim-lowest b owner n (o ∷ map) h z =
-    claim-cases n o
-    (λ e g.
+    let left : o ≢ owner → heldBy owner map ≡ 0 = λ d. sym (held-not owner o map d) ∙ z in
+    claim-cases owner n o map
+    (λ e g q.
     let m : suc (n - 1) ≡ n = omega arith in
-    let zero-left : heldBy owner map ≡ 0 = sym (held-not owner o map (λ w. h (sym w ∙ e))) ∙ z in
-    ap (numbersFrom b owner) (claim-taken owner n o map e g) ∙ numbers-mine b owner owner (claimed owner (n - 1) map) refl
-    ∙ ap (λ (t : List ℕ). b ∷ t) (claim-lowest (suc b) owner (n - 1) map h zero-left)
+    ap (numbersFrom b owner) q ∙ numbers-mine b owner owner (claimed owner (n - 1) map) refl
+    ∙ ap (λ (t : List ℕ). b ∷ t) (claim-lowest (suc b) owner (n - 1) map h (left (λ w. h (sym w ∙ e))))
     ∙ ap (λ (k : ℕ). take k (b ∷ numbersFrom (suc b) free map)) m ∙ ap (take n) (sym (numbers-mine b free o map e)))
-    (λ e g.
-    let zero-left : heldBy owner map ≡ 0 = sym (held-not owner o map (λ w. h (sym w ∙ e))) ∙ z in
-    ap (numbersFrom b owner) (claim-enough owner n o map g) ∙ numbers-not b owner o (claimed owner n map) (λ w. h (sym w ∙ e))
-    ∙ claim-lowest (suc b) owner n map h zero-left
-    ∙ ap (λ (k : ℕ). take k (numbersFrom (suc b) free map)) g ∙ sym (ap (λ (k : ℕ). take k (numbersFrom b free (o ∷ map))) g))
-    (λ e.
+    (λ m q.
     let other : o ≢ owner = λ w. omega (arith, held-mine owner o map w) in
-    let zero-left : heldBy owner map ≡ 0 = sym (held-not owner o map other) ∙ z in
-    ap (numbersFrom b owner) (claim-held owner n o map e) ∙ numbers-not b owner o (claimed owner n map) other
-    ∙ claim-lowest (suc b) owner n map h zero-left ∙ ap (take n) (sym (numbers-not b free o map e)))
+    ap (numbersFrom b owner) q ∙ numbers-not b owner o (claimed owner n map) other ∙ claim-lowest (suc b) owner n map h (left other)
+    ∙ same-or-not o free
+    (λ e. let none : n ≡ 0 = omega (arith, rw (eq-eqb o free e) at m) in rw none)
+    (λ e. ap (take n) (sym (numbers-not b free o map e))))
 
 -- ---- the place of an owner's block
 
@@ -396,28 +284,3 @@ place-skip owner n (suc c) (o ∷ map) h g =
     let k : n - heldBy owner (o ∷ take c map) ≡ n - heldBy owner (take c map) = omega arith in
     place-not owner n o map e ∙ ap suc (place-skip owner n c map (omega arith) (omega arith))
     ∙ rw (← k) (omega arith))
-
--- the numbers of an owner's blocks are their places, in order
-pub place-number : (b owner n : ℕ) (map : List ℕ) → n < heldBy owner map → getD (numbersFrom b owner map) n 0 ≡ b + placeOf owner n map
-unfolding heldBy numbersFrom
-place-number b owner n [] h = absurd (omega arith)
-place-number b owner n (o ∷ map) h =
-    place-cases owner n o
-    (λ e z. ap₂ (λ (l : List ℕ) (k : ℕ). getD l k 0) (numbers-mine b owner o map e) z ∙ omega (arith, place-here owner n o map e z))
-    (λ e z.
-    let m : n ≡ suc (n - 1) = omega arith in
-    ap₂ (λ (l : List ℕ) (k : ℕ). getD l k 0) (numbers-mine b owner o map e) m
-    ∙ place-number (suc b) owner (n - 1) map (omega (arith, held-mine owner o map e)) ∙ omega (arith, place-later owner n o map e z))
-    (λ e.
-    ap (λ (l : List ℕ). getD l n 0) (numbers-not b owner o map e)
-    ∙ place-number (suc b) owner n map (omega (arith, held-not owner o map e)) ∙ omega (arith, place-not owner n o map e))
-
--- there is no such block
-pub place-missing : (owner n : ℕ) (map : List ℕ) → heldBy owner map ≤ n → placeOf owner n map ≡ length map
-unfolding heldBy placeOf
-place-missing owner n [] h = refl
-place-missing owner n (o ∷ map) h =
-    place-cases owner n o
-    (λ e z. absurd (omega (arith, held-mine owner o map e)))
-    (λ e z. place-later owner n o map e z ∙ ap suc (place-missing owner (n - 1) map (omega (arith, held-mine owner o map e))))
-    (λ e. place-not owner n o map e ∙ ap suc (place-missing owner n map (omega (arith, held-not owner o map e))))

@@ -2,4 +2,6 @@ pub mod Over
 pub mod Counts
 pub mod Contents
 mod Turns
-mod Steps
+mod Parts
+mod Appends
+mod Deliveries

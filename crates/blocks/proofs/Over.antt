@@ -1,12 +1,12 @@
 -- Laws of bytes that are put over a list: its length stays, what lies before and behind stays, and a list in two pieces takes them in two.
 -- By induction along the list. Assumes nothing.
 use Prim.Native.Nat.{ℕ, zero, suc, _+_, _-_, _≤_, _<_, min}
-use mathlib.Core.Path.{_≡_, refl, ap, sym}
-use mathlib.Core.List.{List, [], _∷_, _++_}
+use mathlib.Core.Path.{_≡_, refl, ap, sym, _∙_}
+use mathlib.Core.List.{List, [], _∷_, _++_, append-assoc, append-nil}
 use native.Mathlib.Omega.{arith}
 use lib.Dec.{leb}
-use lib.ListN.{length, take, drop}
-use lib.Seq.{drop-nil}
+use lib.ListN.{length, take, drop, length-append, length-take, drop-of-length-le}
+use lib.Seq.{take-nil, drop-nil, take-length, take-at}
 use borrow.Author.Tests.{leb-true, leb-false}
 use Rattle.numbers.specs.Bytes.{laid}
 use Rattle.numbers.proofs.Choices.{split}
@@ -37,13 +37,6 @@ over-length zero [] (x ∷ l) = refl
 over-length zero (y ∷ s) (x ∷ l) = ap suc (over-length zero s l)
 over-length (suc at) s (x ∷ l) = ap suc (over-length at s l)
 
--- the bytes before the place stay
-pub over-before : (at : ℕ) (s l : List ℕ) → take at (over at s l) ≡ take at l
-unfolding over
-over-before at s [] = refl
-over-before zero s (x ∷ l) = refl
-over-before (suc at) s (x ∷ l) = ap (λ (t : List ℕ). x ∷ t) (over-before at s l)
-
 -- the bytes behind what was put stay
 pub over-behind : (at : ℕ) (s l : List ℕ) → drop (at + length s) (over at s l) ≡ drop (at + length s) l
 unfolding over
@@ -55,19 +48,6 @@ over-behind zero (y ∷ s) (x ∷ l) =
 over-behind (suc at) s (x ∷ l) =
     let e : suc at + length s ≡ suc (at + length s) = omega arith in
     rw e (over-behind at s l)
-
--- where all of them fit, they stand behind the bytes that were there
-pub over-adds : (at : ℕ) (s l : List ℕ) → at + length s ≤ length l → take (at + length s) (over at s l) ≡ take at l ++ s
-unfolding over
-over-adds zero [] l h = refl
-over-adds zero (y ∷ s) [] h = absurd (omega arith)
-over-adds zero (y ∷ s) (x ∷ l) h =
-    let e : 0 + suc (length s) ≡ suc (0 + length s) = omega arith in
-    rw e (ap (λ (t : List ℕ). y ∷ t) (over-adds zero s l (omega arith)))
-over-adds (suc at) s [] h = absurd (omega arith)
-over-adds (suc at) s (x ∷ l) h =
-    let e : suc at + length s ≡ suc (at + length s) = omega arith in
-    rw e (ap (λ (t : List ℕ). x ∷ t) (over-adds at s l (omega arith)))
 
 -- the list afterwards, in its three parts: before the bytes, the n of them that fit, behind them
 pub over-parts : (at n : ℕ) (s l : List ℕ) → at ≤ length l → n ≡ min (length s) (length l - at) → over at s l ≡ take at l ++ (take n s ++ drop (at + n) l)
@@ -85,13 +65,19 @@ over-parts (suc at) n s (x ∷ l) h e =
     let w : suc at + n ≡ suc (at + n) = omega arith in
     rw w (ap (λ (t : List ℕ). x ∷ t) (over-parts at n s l (omega arith) (omega arith)))
 
+-- where all of them fit
+pub over-fits : (at : ℕ) (s l : List ℕ) → at + length s ≤ length l → over at s l ≡ take at l ++ (s ++ drop (at + length s) l)
+over-fits at s l h = over-parts at (length s) s l (omega arith) (omega arith) ∙ rw (take-length s)
+
+-- then they stand behind the bytes that were there
+pub over-adds : (at : ℕ) (s l : List ℕ) → at + length s ≤ length l → take (at + length s) (over at s l) ≡ take at l ++ s
+over-adds at s l h =
+    let n : length (take at l ++ s) ≡ at + length s = omega (arith, length-append (take at l) s, length-take at l) in
+    rw (over-fits at s l h, ← append-assoc) (take-at (take at l ++ s) (drop (at + length s) l) (at + length s) n)
+
 -- to the front of a list that has room
 pub over-front : (s l : List ℕ) → length s ≤ length l → over 0 s l ≡ laid s l
-unfolding over
-over-front [] [] h = refl
-over-front [] (x ∷ l) h = refl
-over-front (y ∷ s) [] h = absurd (omega arith)
-over-front (y ∷ s) (x ∷ l) h = ap (λ (t : List ℕ). y ∷ t) (over-front s l (omega arith))
+over-front s l h = let z : 0 + length s ≡ length s = omega arith in rw z at (over-fits 0 s l (omega arith))
 
 -- a list in two pieces
 pub over-append : (at : ℕ) (s a b : List ℕ) → over at s (a ++ b) ≡ over at s a ++ over (at - length a) (drop (length a - at) s) b
@@ -116,3 +102,17 @@ unfolding over
 over-pieces [] b l = refl
 over-pieces (y ∷ a) b [] = refl
 over-pieces (y ∷ a) b (x ∷ l) = ap (λ (t : List ℕ). y ∷ t) (over-pieces a b l)
+
+-- more bytes than there is room for
+pub over-cut : (n : ℕ) (s l : List ℕ) → length l ≤ n → over 0 (take n s) l ≡ over 0 s l
+unfolding over
+over-cut n s [] h = refl
+over-cut n [] (x ∷ l) h = rw (take-nil n)
+over-cut zero (y ∷ s) (x ∷ l) h = absurd (omega arith)
+over-cut (suc n) (y ∷ s) (x ∷ l) h = ap (λ (t : List ℕ). y ∷ t) (over-cut n s l (omega arith))
+
+-- bytes that fill a list
+pub over-full : (s l : List ℕ) → length s ≡ length l → over 0 s l ≡ s
+over-full s l e =
+    let h : length l ≤ length s = omega arith in
+    over-front s l (omega arith) ∙ rw (drop-of-length-le l {i = length s} h) (append-nil s)

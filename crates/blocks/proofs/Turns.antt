@@ -9,11 +9,10 @@ use native.Mathlib.Numerals.{add-one}
 use native.Mathlib.Omega.{arith}
 use lib.Dec.{eqb, leb}
 use lib.ListN.{length, take, drop, getD, set, drop-of-length-le, take-append-drop, length-take, length-drop}
-use lib.Seq.{drop-cons, take-suc, take-suc-set, drop-set-lt, append-snoc, take-all, drop-drop}
+use lib.Seq.{drop-cons, take-suc, take-suc-set, drop-set-lt, append-snoc, take-all, drop-drop, getD-drop}
 use Rattle.numbers.specs.Bytes.{pick}
-use Rattle.numbers.proofs.Choices.{split}
 use Rattle.blocks.specs.Map.{free, heldBy, claimed, released, placeOf}
-use Rattle.blocks.proofs.Counts.{held-most, claim-none, claim-taken, claim-held, place-here, place-later, place-not, place-most, place-skip}
+use Rattle.blocks.proofs.Counts.{held-most, claim-none, claim-taken, claim-held, place-here, place-later, place-not, place-most, place-owner, place-skip}
 
 -- a pass over a list at i: the entry is kept, or v is stored there
 pub kept-at : (g : List ℕ → List ℕ) (p : List ℕ) (i : ℕ) → i < length p → take (i + 1) p ++ g (drop (i + 1) p) ≡ take i p ++ (getD p i 0 ∷ g (drop (suc i) p))
@@ -47,10 +46,10 @@ module _ (owner n : ℕ) (p : List ℕ) (i : ℕ) where
 
 -- releasing: an entry, and the end
 module _ (low high : ℕ) (p : List ℕ) (i : ℕ) where
-  pub release-turn : (v : ℕ) → i < length p → v ≡ pick (leb low (getD p i 0) && leb (getD p i 0) high) free (getD p i 0)
+  pub release-turn : {v : ℕ} → i < length p → v ≡ pick (leb low (getD p i 0) && leb (getD p i 0) high) free (getD p i 0)
       → take (i + 1) (set p i v) ++ released low high (drop (i + 1) (set p i v)) ≡ take i p ++ released low high (drop i p)
   unfolding released
-  release-turn v h e = stored-at (released low high) p i v h ∙ rw (drop-cons p i 0 h, e)
+  release-turn {v} h e = stored-at (released low high) p i v h ∙ rw (drop-cons p i 0 h, e)
 
   pub release-end : length p ≤ i → take i p ++ released low high (drop i p) ≡ p
   unfolding released
@@ -58,17 +57,13 @@ module _ (low high : ℕ) (p : List ℕ) (i : ℕ) where
 
 -- counting: an entry, and the end
 module _ (owner : ℕ) (map : List ℕ) (i : ℕ) where
-  pub count-turn : (v : ℕ) → i < length map → v ≡ pick (eqb (getD map i 0) owner) 1 0 → v + heldBy owner (drop (i + 1) map) ≡ heldBy owner (drop i map)
+  pub count-turn : {v : ℕ} → i < length map → v ≡ pick (eqb (getD map i 0) owner) 1 0 → v + heldBy owner (drop (i + 1) map) ≡ heldBy owner (drop i map)
   unfolding heldBy
-  count-turn v h e = rw (add-one, drop-cons map i 0, e)
+  count-turn h e = rw (add-one, drop-cons map i 0, e)
 
   pub count-end : length map ≤ i → heldBy owner (drop i map) ≡ 0
   unfolding heldBy
   count-end h = rw drop-of-length-le
-
-  -- an entry counts for one at most
-  pub count-one : (v : ℕ) → v ≡ pick (eqb (getD map i 0) owner) 1 0 → v ≤ 1
-  count-one v e = split (eqb (getD map i 0) owner) (λ t. omega (arith, rw t at e)) (λ t. omega (arith, rw t at e))
 
 pub held-pieces : (owner : ℕ) (a b : List ℕ) → heldBy owner (a ++ b) ≡ heldBy owner a + heldBy owner b
 unfolding heldBy
@@ -79,7 +74,7 @@ held-pieces owner (o ∷ a) b = omega (arith, held-pieces owner a b)
 pub part-behind : (map : List ℕ) (i : ℕ) → take (length map - i) (drop i map) ≡ drop i map
 part-behind map i = take-all (length map - i) (drop i map) (omega (arith, length-drop i map))
 
-module _ (owner : ℕ) (map : List ℕ) (i n r : ℕ) (e : r ≡ heldBy owner (take (i + n - i) (drop i map))) where
+module _ (owner : ℕ) (map : List ℕ) (i n : ℕ) {r : ℕ} (e : r ≡ heldBy owner (take (i + n - i) (drop i map))) where
   group-count : r ≡ heldBy owner (take n (drop i map))
   group-count = let z : i + n - i ≡ n = omega arith in e ∙ ap (λ (k : ℕ). heldBy owner (take k (drop i map))) z
 
@@ -100,30 +95,23 @@ module _ (owner : ℕ) (map : List ℕ) (i n r : ℕ) (e : r ≡ heldBy owner (t
       rw (group-count, ← drop-drop n i map) (place-skip owner left n (drop i map) inside few)
 
 -- those that are left
-pub rest-count : (owner : ℕ) (map : List ℕ) (i r : ℕ) → r ≡ heldBy owner (take (length map - i) (drop i map)) → r ≡ heldBy owner (drop i map)
-rest-count owner map i r e = e ∙ ap (heldBy owner) (part-behind map i)
+pub rest-count : (owner : ℕ) (map : List ℕ) (i : ℕ) {r : ℕ} → r ≡ heldBy owner (take (length map - i) (drop i map)) → r ≡ heldBy owner (drop i map)
+rest-count owner map i e = e ∙ ap (heldBy owner) (part-behind map i)
 
-pub rest-most : (owner : ℕ) (map : List ℕ) (i r : ℕ) → i ≤ length map → r ≡ heldBy owner (take (length map - i) (drop i map)) → r + i ≤ length map
-rest-most owner map i r h e = omega (arith, rest-count owner map i r e, held-most owner (drop i map), length-drop i map)
+pub rest-place : (owner n : ℕ) (map : List ℕ) (i : ℕ) {r : ℕ} → r ≡ placeOf owner n (take (length map - i) (drop i map)) → r ≡ placeOf owner n (drop i map)
+rest-place owner n map i e = e ∙ ap (placeOf owner n) (part-behind map i)
 
-pub rest-place : (owner n : ℕ) (map : List ℕ) (i r : ℕ) → r ≡ placeOf owner n (take (length map - i) (drop i map)) → r ≡ placeOf owner n (drop i map)
-rest-place owner n map i r e = e ∙ ap (placeOf owner n) (part-behind map i)
-
-pub place-inside : (owner n : ℕ) (map : List ℕ) (i r : ℕ) → i ≤ length map → r ≡ placeOf owner n (take (length map - i) (drop i map)) → i + r ≤ length map
-place-inside owner n map i r h e = omega (arith, rest-place owner n map i r e, place-most owner n (drop i map), length-drop i map)
+pub place-inside : (owner n : ℕ) (map : List ℕ) (i : ℕ) {r : ℕ} → i ≤ length map → r ≡ placeOf owner n (take (length map - i) (drop i map)) → i + r ≤ length map
+place-inside owner n map i h e = omega (arith, rest-place owner n map i e, place-most owner n (drop i map), length-drop i map)
 
 -- groups passed over, then smaller ones behind them, then entries
-module _ (map : List ℕ) (a b : ℕ) where
-  pub skip-inside : a ≤ length map → b ≤ length (take (length map - a) (drop a map)) → a + b ≤ length map
-  skip-inside h g = omega (arith, ap length (part-behind map a), length-drop a map)
-
-  pub skip-twice : (owner n m k r : ℕ) → a + placeOf owner m (drop a map) ≡ placeOf owner n map
-      → b + placeOf owner k (drop b (take (length map - a) (drop a map))) ≡ placeOf owner m (take (length map - a) (drop a map))
-      → r ≡ placeOf owner k (take (length map - (a + b)) (drop (a + b) map))
-      → a + b + r ≡ placeOf owner n map
-  skip-twice owner n m k r e f g =
-      let near : b + placeOf owner k (drop (a + b) map) ≡ placeOf owner m (drop a map) = rw (part-behind map a, drop-drop b a map) at f in
-      omega (arith, rest-place owner k map (a + b) r g)
+pub skip-twice : (map : List ℕ) (a b owner n m k : ℕ) {r : ℕ} → a + placeOf owner m (drop a map) ≡ placeOf owner n map
+    → b + placeOf owner k (drop b (take (length map - a) (drop a map))) ≡ placeOf owner m (take (length map - a) (drop a map))
+    → r ≡ placeOf owner k (take (length map - (a + b)) (drop (a + b) map))
+    → a + b + r ≡ placeOf owner n map
+skip-twice map a b owner n m k e f g =
+    let near : b + placeOf owner k (drop (a + b) map) ≡ placeOf owner m (drop a map) = rw (part-behind map a, drop-drop b a map) at f in
+    omega (arith, rest-place owner k map (a + b) g)
 
 -- finding: the block itself, another of the owner's before it, one of another, the end
 module _ (owner n : ℕ) (map : List ℕ) (i : ℕ) where
@@ -139,3 +127,10 @@ module _ (owner n : ℕ) (map : List ℕ) (i : ℕ) where
   pub find-end : length map ≤ i → placeOf owner n (drop i map) ≡ 0
   unfolding placeOf
   find-end h = rw drop-of-length-le
+
+-- the owner's next block from b on, and the map behind it
+pub next-block : (owner : ℕ) (map : List ℕ) (b k : ℕ) → k ≡ b + placeOf owner 0 (drop b map) → k < length map → drop k map ≡ owner ∷ drop (k + 1) map
+next-block owner map b k is below =
+    let j : ℕ = placeOf owner 0 (drop b map) in
+    let mine : getD map k 0 ≡ owner = rw is (sym (getD-drop b map j 0) ∙ place-owner owner 0 (drop b map) (omega (arith, length-drop b map))) in
+    rw (drop-cons map k 0 below, mine, add-one k)

@@ -1,45 +1,28 @@
 -- `blocks::append` meets its contract: up to the block that is found nothing changes, and `fill` appends from there on; in the first block it appends from the start.
 -- Assumes nothing.
 use Prim.Native.Nat.{_/_}
-use mathlib.Core.Path.{_∙_}
 use native.Mathlib.Omega.{arith}
 use Rattle.blocks.specs.Pool.{appendedFrom}
 use Rattle.blocks.proofs.Counts.{place-most}
-use Rattle.blocks.proofs.Steps.{from-found}
+use Rattle.blocks.proofs.Appends.{from-found}
 use borrow.Author.Needs.{needs}
 use Rattle.blocks.proofs.append.Statement.{statement}
 use Rattle.blocks.proofs.append.Tie as tie
-
-fill-requires : tie.Need-fill-requires
-fill-requires c κs = search needs
-
-same-length : tie.Need-same-length
-same-length c = search needs
 
 returns : tie.Need-returns
 unfolding appendedFrom
 returns c = (c .before .before .fill .ensures)
 
-find-block-requires : tie.Need-find-block-requires
-find-block-requires c κs = search needs
-
 fill-requires-2 : tie.Need-fill-requires-2
 fill-requires-2 c κs = let a = (c .before .before .before .before .before .before .args) in (omega arith, omega (arith, (c .before .find-block .ensures), place-most (a .owner .0) (a .at / 256) (a .map .now)))
 
-same-length-2 : tie.Need-same-length-2
-same-length-2 c = search needs
-
 returns-2 : tie.Need-returns-2
-returns-2 c = let a = (c .before .before .before .before .before .before .before .before .before .args) in (c .before .before .fill2 .ensures) ∙ from-found (a .owner .0) (a .at) (a .payload .now) (a .map .now) (a .pool .now) ((c .before .before .before .before .find-block .result) .0) (c .before .before .before .before .find-block .ensures)
+returns-2 c = let a = (c .before .before .before .before .before .before .before .before .before .args) in from-found (a .owner .0) (a .at) (a .payload .now) (a .map .now) (a .pool .now) (c .before .before .before .before .find-block .ensures) (c .before .before .fill2 .ensures)
 
 pub append-spec : {M : Type 1} → statement M
 append-spec =
     tie.close
     (tie.spec
-    fill-requires
-    same-length
-    returns
-    find-block-requires
-    fill-requires-2
-    same-length-2
-    returns-2)
+    (λ c κs. search needs) (λ c. search needs) returns  -- in the first block
+    (λ c κs. tt)  -- b
+    fill-requires-2 (λ c. search needs) returns-2)  -- behind it

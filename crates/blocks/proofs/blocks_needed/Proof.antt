@@ -6,9 +6,6 @@ use borrow.Author.Needs.{needs}
 use Rattle.blocks.proofs.blocks_needed.Statement.{statement}
 use Rattle.blocks.proofs.blocks_needed.Tie as tie
 
-add-result : tie.Need-add-result
-add-result c = search needs
-
 returns : tie.Need-returns
 unfolding neededFor
 returns c = omega arith
@@ -18,4 +15,4 @@ unfolding neededFor
 returns-2 c = omega arith
 
 pub blocks-needed-spec : {M : Type 1} → statement M
-blocks-needed-spec = tie.close (tie.spec add-result returns returns-2)
+blocks-needed-spec = tie.close (tie.spec (λ c. search needs) returns returns-2)

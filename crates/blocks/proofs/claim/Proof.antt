@@ -24,29 +24,14 @@ loop-holds c = (omega arith, (c .good .0 .1 .0 .1), refl)
 returns : tie.Need-returns Inv-loop μ-loop
 returns c = let l = (c .before .before .loop) in sym (claim-done _ (l .wanted) (l .after) (l .i) (omega arith)) ∙ l .inv .2
 
-array-read-if2 : tie.Need-array-read-if2 Inv-loop μ-loop
-array-read-if2 c = search needs
-
-array-write-after : tie.Need-array-write-after Inv-loop μ-loop
-array-write-after c = search needs
-
-sub-wanted : tie.Need-sub-wanted Inv-loop μ-loop
-sub-wanted c = search needs
-
-add-i : tie.Need-add-i Inv-loop μ-loop
-add-i c = search needs
-
-loop-less : tie.Need-loop-less Inv-loop μ-loop
-loop-less c = search needs
-
 loop-again : tie.Need-loop-again Inv-loop μ-loop
 loop-again c =
     let l = (c .before .before .before .loop) in
     let a = (c .before .before .before .before .args) in
     let h : l .i < length (l .after) = omega arith in
     ⊎-elim
-    (λ w. (omega arith, rw (w .1) (simp length-set (omega arith)), cc (claim-turn (a .owner .0) (l .wanted) (l .after) (l .i) h (w .0 .taken) (omega arith))))
-    (λ w. (omega arith, rw (w .1) (omega arith), cc (claim-pass (a .owner .0) (l .wanted) (l .after) (l .i) h (w .0 .left))))
+    (λ w. (omega arith, rw (w .1) (simp length-set (omega arith)), rw (w .1, w .2) (claim-turn (a .owner .0) (l .wanted) (l .after) (l .i) h (w .0 .taken) (omega arith) ∙ l .inv .2)))
+    (λ w. (omega arith, rw (w .1) (omega arith), rw (w .1, w .2) (claim-pass (a .owner .0) (l .wanted) (l .after) (l .i) h (w .0 .left) ∙ l .inv .2)))
     ((c .if2 .came))
 
 returns-2 : tie.Need-returns-2 Inv-loop μ-loop
@@ -60,10 +45,9 @@ claim-spec =
     μ-loop
     loop-holds
     returns
-    array-read-if2
-    array-write-after
-    sub-wanted
-    add-i
-    loop-less
+    (λ c. search needs) (λ c. search needs)  -- after[i]
+    (λ c. search needs)  -- wanted
+    (λ c. search needs)  -- i
+    (λ c. search needs)  -- BLOCK_COUNT - i falls
     loop-again
     returns-2)

@@ -5,41 +5,20 @@ use mathlib.Core.Path.{_≡_}
 use native.Mathlib.Omega.{arith}
 use lib.ListN.{length, drop}
 use Rattle.blocks.specs.Map.{heldBy}
-use Rattle.blocks.proofs.Turns.{count-turn, count-end, count-one}
+use Rattle.blocks.proofs.Counts.{held-most}
+use Rattle.blocks.proofs.Turns.{count-turn, count-end}
 use borrow.Author.Needs.{needs}
 use Rattle.blocks.proofs.count_group.Statement.{statement}
 use Rattle.blocks.proofs.count_group.Tie as tie
 
 abbrev Inv-loop : tie.InvT-loop
-Inv-loop entries owner count₀ i₀ count i = (i ≤ length entries) × (count ≤ i) × (count + heldBy owner (drop i entries) ≡ heldBy owner entries)
+Inv-loop entries owner count₀ i₀ count i = (i ≤ length entries) × (count + heldBy owner (drop i entries) ≡ heldBy owner entries)
 
 abbrev μ-loop : tie.MeasureT-loop
 μ-loop entries owner count₀ i₀ count i = length entries - i
 
-loop-holds : tie.Need-loop-holds Inv-loop μ-loop
-loop-holds c = search needs
-
-shared-slice-read-one-if-same : tie.Need-shared-slice-read-one-if-same Inv-loop μ-loop
-shared-slice-read-one-if-same c = search needs
-
-one-if-same-requires : tie.Need-one-if-same-requires Inv-loop μ-loop
-one-if-same-requires c κs = search needs
-
-add-count : tie.Need-add-count Inv-loop μ-loop
-add-count c = let l = (c .before .before .before .loop) in let a = (c .before .before .before .before .before .args) in omega (arith, count-one (a .owner) (a .entries .now) (l .i) (c .one-if-same .result) (c .one-if-same .ensures))
-
-add-i : tie.Need-add-i Inv-loop μ-loop
-add-i c = search needs
-
-loop-less : tie.Need-loop-less Inv-loop μ-loop
-loop-less c = search needs
-
 loop-again : tie.Need-loop-again Inv-loop μ-loop
-loop-again c =
-    let l = (c .before .before .before .loop) in
-    let a = (c .before .before .before .before .before .args) in
-    let e = count-turn (a .owner) (a .entries .now) (l .i) (c .one-if-same .result) (omega arith) (c .one-if-same .ensures) in
-    (omega arith, omega (arith, count-one (a .owner) (a .entries .now) (l .i) (c .one-if-same .result) (c .one-if-same .ensures)), omega arith)
+loop-again c = let a = (c .before .before .before .before .before .args) in (omega arith, omega (arith, count-turn (a .owner) (a .entries .now) (c .before .before .before .loop .i) (omega arith) (c .one-if-same .ensures)))
 
 returns : tie.Need-returns Inv-loop μ-loop
 returns c = let a = (c .before .before .before .args) in omega (arith, count-end (a .owner) (a .entries .now) ((c .before .loop .i)) (omega arith))
@@ -50,11 +29,9 @@ count-group-spec =
     (tie.spec
     Inv-loop
     μ-loop
-    loop-holds
-    shared-slice-read-one-if-same
-    one-if-same-requires
-    add-count
-    add-i
-    loop-less
+    (λ c. search needs)
+    (λ c. search needs) (λ c κs. tt) (λ c. omega (arith, loop-again c .1, held-most (c .before .before .before .before .before .args .owner) (c .before .before .before .before .before .args .entries .now)))  -- count
+    (λ c. search needs)  -- i
+    (λ c. search needs)  -- entries.len() - i falls
     loop-again
     returns)

@@ -1,17 +1,14 @@
 -- `blocks::entry_after` meets its contract: what the code's two tests show of the numbers decides the definition's.
 -- Assumes nothing.
-use mathlib.Core.Path.{_≡_, refl}
+use mathlib.Core.Path.{_≡_}
 use mathlib.Core.Bool.{Bool, true, false, _&&_}
 use native.Mathlib.Omega.{arith}
 use lib.Dec.{leb}
 use borrow.Author.Tests.{le-leb, lt-leb, leb-true, leb-false, ltb-true, ltb-false}
+use Rattle.numbers.proofs.Choices.{and-both}
 use Rattle.blocks.proofs.Over.{compare}
 use Rattle.blocks.proofs.entry_after.Statement.{statement}
 use Rattle.blocks.proofs.entry_after.Tie as tie
-
-both : (a b : Bool) → a && b ≡ true → (a ≡ true) × (b ≡ true)
-both true b e = (refl, e)
-both false b e = (e, cc)
 
 not-second : (a b : Bool) → a && b ≡ false → a ≡ true → b ≡ false
 not-second true b e t = e
@@ -20,7 +17,7 @@ not-second false b e t = cc
 returns : tie.Need-returns
 returns c =
     let a = (c .before .args) in
-    let t = both (leb (a .low) (a .entry)) _ (c .if1 .taken) in
+    let t = and-both (leb (a .low) (a .entry)) _ (c .if1 .taken) in
     rw (le-leb (a .low) (a .entry) (omega (arith, leb-true, ltb-true)), le-leb (a .entry) (a .high) (omega (arith, leb-true, ltb-true)))
 
 returns-2 : tie.Need-returns-2

@@ -5,77 +5,25 @@ use mathlib.Core.Path.{_≡_}
 use native.Mathlib.Omega.{arith}
 use lib.ListN.{length, drop, length-take, length-drop}
 use Rattle.blocks.specs.Map.{heldBy}
-use Rattle.blocks.proofs.Turns.{group-turn, group-most, rest-count, rest-most}
+use Rattle.blocks.proofs.Counts.{held-most}
+use Rattle.blocks.proofs.Turns.{group-turn, rest-count}
 use borrow.Author.Needs.{needs}
 use Rattle.blocks.proofs.held.Statement.{statement}
 use Rattle.blocks.proofs.held.Tie as tie
 
 abbrev Inv-loop : tie.InvT-loop
-Inv-loop map number count₀ from₀ count from = (from ≤ length map) × (count ≤ from) × (count + heldBy number (drop from map) ≡ heldBy number map)
+Inv-loop map number count₀ from₀ count from = (from ≤ length map) × (count + heldBy number (drop from map) ≡ heldBy number map)
 
 abbrev μ-loop : tie.MeasureT-loop
 μ-loop map number count₀ from₀ count from = length map - from
 
-loop-holds : tie.Need-loop-holds Inv-loop μ-loop
-loop-holds c = search needs
-
-sub-loop : tie.Need-sub-loop Inv-loop μ-loop
-sub-loop c = search needs
-
-add-end : tie.Need-add-end Inv-loop μ-loop
-add-end c = search needs
-
-sub-count-group : tie.Need-sub-count-group Inv-loop μ-loop
-sub-count-group c = search needs
-
-part-count-group-start : tie.Need-part-count-group-start Inv-loop μ-loop
-part-count-group-start c = search needs
-
-part-count-group-end : tie.Need-part-count-group-end Inv-loop μ-loop
-part-count-group-end c = search needs
-
-count-group-requires : tie.Need-count-group-requires Inv-loop μ-loop
-count-group-requires c κs = simp (length-take, length-drop) (omega arith)
-
-wide-requires : tie.Need-wide-requires Inv-loop μ-loop
-wide-requires c κs = search needs
-
-add-count : tie.Need-add-count Inv-loop μ-loop
-add-count c = let l = (c .before .before .before .before .loop) in let a = (c .before .before .before .before .before .before .args) in omega (arith, group-most (a .owner .0) (a .map .now) (l .from) 64 (c .before .count-group .result) (c .before .count-group .ensures))
-
-loop-less : tie.Need-loop-less Inv-loop μ-loop
-loop-less c = search needs
-
 loop-again : tie.Need-loop-again Inv-loop μ-loop
 loop-again c =
-    let l = (c .before .before .before .before .loop) in
     let a = (c .before .before .before .before .before .before .args) in
-    let e = (c .wide .ensures) in (
-      omega arith,
-      omega (arith, group-most (a .owner .0) (a .map .now) (l .from) 64 (c .before .count-group .result) (c .before .count-group .ensures)),
-      omega (arith, group-turn (a .owner .0) (a .map .now) (l .from) 64 (c .before .count-group .result) (c .before .count-group .ensures)),
-    )
-
-sub-count-group-2 : tie.Need-sub-count-group-2 Inv-loop μ-loop
-sub-count-group-2 c = search needs
-
-part-count-group-start-2 : tie.Need-part-count-group-start-2 Inv-loop μ-loop
-part-count-group-start-2 c = search needs
-
-part-count-group-end-2 : tie.Need-part-count-group-end-2 Inv-loop μ-loop
-part-count-group-end-2 c = search needs
-
-count-group-requires-2 : tie.Need-count-group-requires-2 Inv-loop μ-loop
-count-group-requires-2 c κs = simp (length-take, length-drop) (omega arith)
-
-wide-requires-2 : tie.Need-wide-requires-2 Inv-loop μ-loop
-wide-requires-2 c κs = search needs
-
-add-result : tie.Need-add-result Inv-loop μ-loop
-add-result c = let l = (c .before .before .before .before .loop) in let a = (c .before .before .before .before .before .before .args) in omega (arith, rest-most (a .owner .0) (a .map .now) (l .from) (c .before .count-group2 .result) (omega arith) (c .before .count-group2 .ensures))
+    (omega arith, omega (arith, (c .wide .ensures), group-turn (a .owner .0) (a .map .now) (c .before .before .before .before .loop .from) 64 (c .before .count-group .ensures)))
 
 returns : tie.Need-returns Inv-loop μ-loop
-returns c = let l = (c .before .before .before .before .loop) in let a = (c .before .before .before .before .before .before .args) in omega (arith, rest-count (a .owner .0) (a .map .now) (l .from) (c .before .count-group2 .result) (c .before .count-group2 .ensures))
+returns c = let a = (c .before .before .before .before .before .before .args) in omega (arith, rest-count (a .owner .0) (a .map .now) (c .before .before .before .before .loop .from) (c .before .count-group2 .ensures))
 
 pub held-spec : {M : Type 1} → statement M
 held-spec =
@@ -83,21 +31,14 @@ held-spec =
     (tie.spec
     Inv-loop
     μ-loop
-    loop-holds
-    sub-loop
-    add-end
-    sub-count-group
-    part-count-group-start
-    part-count-group-end
-    count-group-requires
-    wide-requires
-    add-count
-    loop-less
+    (λ c. search needs)
+    (λ c. search needs)  -- map.len() - from
+    (λ c. search needs)  -- end
+    (λ c. search needs) (λ c. search needs) (λ c. search needs)  -- &map[from..end]
+    (λ c κs. simp (length-take, length-drop) (omega arith)) (λ c κs. tt)  -- wide(count_group(..))
+    (λ c. omega (arith, loop-again c .1, held-most (c .before .before .before .before .before .before .args .owner .0) (c .before .before .before .before .before .before .args .map .now)))  -- count
+    (λ c. search needs)  -- map.len() - from falls
     loop-again
-    sub-count-group-2
-    part-count-group-start-2
-    part-count-group-end-2
-    count-group-requires-2
-    wide-requires-2
-    add-result
+    (λ c. search needs) (λ c. search needs) (λ c. search needs)  -- &map[from..]
+    (λ c κs. simp (length-take, length-drop) (omega arith)) (λ c κs. tt) (λ c. omega (arith, returns c, held-most (c .before .before .before .before .before .before .args .owner .0) (c .before .before .before .before .before .before .args .map .now)))  -- the sum
     returns)

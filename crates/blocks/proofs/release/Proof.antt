@@ -20,26 +20,11 @@ abbrev μ-loop : tie.MeasureT-loop
 loop-holds : tie.Need-loop-holds Inv-loop μ-loop
 loop-holds c = (omega arith, (c .good .0 .1 .0 .1), refl)
 
-array-read-entry-after : tie.Need-array-read-entry-after Inv-loop μ-loop
-array-read-entry-after c = search needs
-
-entry-after-requires : tie.Need-entry-after-requires Inv-loop μ-loop
-entry-after-requires c κs = search needs
-
-array-write-after : tie.Need-array-write-after Inv-loop μ-loop
-array-write-after c = search needs
-
-add-i : tie.Need-add-i Inv-loop μ-loop
-add-i c = search needs
-
-loop-less : tie.Need-loop-less Inv-loop μ-loop
-loop-less c = search needs
-
 loop-again : tie.Need-loop-again Inv-loop μ-loop
 loop-again c =
     let l = (c .before .before .loop) in
     let h : l .i < length (l .after) = omega arith in
-    (omega arith, simp length-set (omega arith), release-turn _ _ (l .after) (l .i) (c .entry-after .result) h (c .entry-after .ensures) ∙ l .inv .2)
+    (omega arith, simp length-set (omega arith), release-turn _ _ (l .after) (l .i) h (c .entry-after .ensures) ∙ l .inv .2)
 
 returns : tie.Need-returns Inv-loop μ-loop
 returns c = let l = (c .before .loop) in sym (release-end _ _ (l .after) (l .i) (omega arith)) ∙ l .inv .2
@@ -51,10 +36,8 @@ release-spec =
     Inv-loop
     μ-loop
     loop-holds
-    array-read-entry-after
-    entry-after-requires
-    array-write-after
-    add-i
-    loop-less
+    (λ c. search needs) (λ c κs. tt) (λ c. search needs)  -- after[i]
+    (λ c. search needs)  -- i
+    (λ c. search needs)  -- BLOCK_COUNT - i falls
     loop-again
     returns)

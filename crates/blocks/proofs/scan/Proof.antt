@@ -17,23 +17,8 @@ Inv-loop map owner n left₀ i₀ left i = (i ≤ length map) × (i + placeOf ow
 abbrev μ-loop : tie.MeasureT-loop
 μ-loop map owner n left₀ i₀ left i = length map - i
 
-loop-holds : tie.Need-loop-holds Inv-loop μ-loop
-loop-holds c = search needs
-
-shared-slice-read-if1 : tie.Need-shared-slice-read-if1 Inv-loop μ-loop
-shared-slice-read-if1 c = search needs
-
 returns : tie.Need-returns Inv-loop μ-loop
 returns c = let l = (c .before .before .before .before .loop) in let a = (c .before .before .before .before .before .args) in omega (arith, find-here (a .owner) (l .left) (a .map .now) (l .i) (omega arith) (c .before .if1 .taken) (c .if2 .taken))
-
-sub-left : tie.Need-sub-left Inv-loop μ-loop
-sub-left c = search needs
-
-add-i : tie.Need-add-i Inv-loop μ-loop
-add-i c = search needs
-
-loop-less : tie.Need-loop-less Inv-loop μ-loop
-loop-less c = search needs
 
 loop-again : tie.Need-loop-again Inv-loop μ-loop
 loop-again c =
@@ -53,11 +38,11 @@ scan-spec =
     (tie.spec
     Inv-loop
     μ-loop
-    loop-holds
-    shared-slice-read-if1
+    (λ c. search needs)
+    (λ c. search needs)  -- map[i]
     returns
-    sub-left
-    add-i
-    loop-less
+    (λ c. search needs)  -- left
+    (λ c. search needs)  -- i
+    (λ c. search needs)  -- map.len() - i falls
     loop-again
     returns-2)
