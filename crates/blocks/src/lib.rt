@@ -66,12 +66,6 @@ pub fn blocks_needed(total: usize) -> usize
     }
 }
 
-fn least(a: usize, b: usize) -> usize
-    ensures { λ r. ⌜ r ≡ min a b ⌝ }
-{
-    if a < b { a } else { b }
-}
-
 fn wide(b: u8) -> usize
     ensures { λ r. ⌜ r ≡ b ⌝ }
 {
@@ -266,7 +260,7 @@ fn overwrite(source: &[u8], at: usize, target: &mut [u8])
     ensures { λ _. ⌜ now (target .exit) ≡ over at (now (source .entry)) (now (target .entry)) ⌝ }
 {
     if at < target.len() {
-        let n = least(source.len(), target.len() - at);
+        let n = numbers::least(source.len(), target.len() - at);
         let end = at + n;
         copy_block(&source[0..n], &mut target[at..end]);
     }
@@ -288,9 +282,9 @@ fn fill(map: &[u8], owner: u8, first: BlockNumber, at: usize, payload: &[u8], po
         }
         if starts_inside(k, pool.len()) {
             let start = BLOCK_SIZE * k;
-            let end = start + least(BLOCK_SIZE, pool.len() - start);
+            let end = start + numbers::least(BLOCK_SIZE, pool.len() - start);
             overwrite(&payload[done..], place, &mut pool[start..end]);
-            done = done + least(BLOCK_SIZE - place, payload.len() - done);
+            done = done + numbers::least(BLOCK_SIZE - place, payload.len() - done);
             place = 0;
             b = k + 1;
         } else {
@@ -325,8 +319,8 @@ fn deliver_blocks(map: &[u8], owner: Owner, due: usize, pool: &[u8], out: &mut [
     if ahead < map.len() {
         if starts_inside(ahead, pool.len()) {
             let start = BLOCK_SIZE * ahead;
-            let size = least(BLOCK_SIZE, pool.len() - start);
-            let n = least(size, due);
+            let size = numbers::least(BLOCK_SIZE, pool.len() - start);
+            let n = numbers::least(size, due);
             let end = start + n;
             overwrite(&pool[start..end], 0, out);
             if n < out.len() {
@@ -348,14 +342,14 @@ fn deliver_blocks(map: &[u8], owner: Owner, due: usize, pool: &[u8], out: &mut [
 pub fn deliver(map: &[u8], owner: Owner, due: usize, pool: &[u8], out: &mut [u8])
     ensures { λ _. ⌜ now (out .exit) ≡ delivered (owner .0) due (now (map .entry)) (now (pool .entry)) (now (out .entry)) ⌝ }
 {
-    let most = least(due, out.len());
-    let whole = least(map.len(), pool.len() / BLOCK_SIZE);
+    let most = numbers::least(due, out.len());
+    let whole = numbers::least(map.len(), pool.len() / BLOCK_SIZE);
     let mut from: usize = 0;
     let mut done: usize = 0;
     while FEW <= whole - from {
         let next = from + FEW;
         let here = BLOCK_SIZE * wide(count_group(&map[from..next], owner.0));
-        let n = least(here, most - done);
+        let n = numbers::least(here, most - done);
         let start = BLOCK_SIZE * from;
         let until = done + n;
         deliver_blocks(

@@ -12,7 +12,7 @@ use borrow.Fn.PlainCycle.{Measures, is, falls, and}
 use Rattle.blocks.proofs.deliver_blocks.Reads as deliver-blocks
 use Rattle.blocks.proofs.deliver_blocks.Kinds.{ps}
 use Rattle.blocks.proofs.+deliver_blocks.Lts-deliver_blocks as lts
-use Rattle.blocks.proofs.least.Reads as least
+use Rattle.numbers.proofs.least.Reads as least
 use Rattle.blocks.proofs.overwrite.Reads as overwrite
 use Rattle.blocks.proofs.scan.Reads as scan
 use Rattle.blocks.proofs.starts_inside.Reads as starts-inside
