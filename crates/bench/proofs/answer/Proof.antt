@@ -5,18 +5,6 @@ use borrow.Author.Needs.{needs}
 use Rattle.bench.proofs.answer.Statement.{statement}
 use Rattle.bench.proofs.answer.Tie as tie
 
-line-requires : tie.Need-line-requires
-line-requires c κs = search needs
-
-same-length : tie.Need-same-length
-same-length c = search needs
-
-same-length-2 : tie.Need-same-length-2
-same-length-2 c = search needs
-
-same-length-3 : tie.Need-same-length-3
-same-length-3 c = search needs
-
 returns : tie.Need-returns
 returns c =
     let a = c .before .before .before .before .before .before .before .before .before .before .before .before .before .before .args in
@@ -24,4 +12,8 @@ returns c =
     (e, turn-says (a .bench) (a .line .now) (a .pool .now) (a .out .now) (a .text .now) (c .before .before .before .before .before .before .before .before .before .before .before .before .before .before .pre) e)
 
 pub answer-spec : {M : Type 1} → statement M
-answer-spec = tie.close (tie.spec line-requires same-length same-length-2 same-length-3 returns)
+answer-spec =
+    tie.close
+    (tie.spec
+    (λ c κs. search needs) (λ c. search needs) (λ c. search needs) (λ c. search needs)  -- line-requires, same-length, same-length-2, same-length-3
+    returns)

@@ -5,24 +5,6 @@ use borrow.Author.Needs.{needs}
 use Rattle.bench.proofs.answer_piece.Statement.{statement}
 use Rattle.bench.proofs.answer_piece.Tie as tie
 
-take-piece-requires : tie.Need-take-piece-requires
-take-piece-requires c κs = search needs
-
-flush-requires : tie.Need-flush-requires
-flush-requires c κs = search needs
-
-same-length : tie.Need-same-length
-same-length c = search needs
-
-same-length-2 : tie.Need-same-length-2
-same-length-2 c = search needs
-
-same-length-3 : tie.Need-same-length-3
-same-length-3 c = search needs
-
-same-length-4 : tie.Need-same-length-4
-same-length-4 c = search needs
-
 returns : tie.Need-returns
 returns c =
     let t = c .before .before .before .before .before .before .before .before .before .before .before .take-piece in
@@ -32,10 +14,6 @@ pub answer-piece-spec : {M : Type 1} → statement M
 answer-piece-spec =
     tie.close
     (tie.spec
-    take-piece-requires
-    flush-requires
-    same-length
-    same-length-2
-    same-length-3
-    same-length-4
+    (λ c κs. search needs) (λ c κs. search needs) (λ c. search needs) (λ c. search needs)  -- take-piece-requires, flush-requires, same-length, same-length-2
+    (λ c. search needs) (λ c. search needs)  -- same-length-3, same-length-4
     returns)

@@ -14,36 +14,6 @@ use Rattle.bench.proofs.end_input.Tie as tie
 returns : tie.Need-returns
 returns c = rw (eq-eqb _ _ (c .if1 .taken))
 
-made-room-requires : tie.Need-made-room-requires
-made-room-requires c κs = search needs
-
-front-requires : tie.Need-front-requires
-front-requires c κs = search needs
-
-sub-answer : tie.Need-sub-answer
-sub-answer c = search needs
-
-part-answer-start : tie.Need-part-answer-start
-part-answer-start c = search needs
-
-part-answer-end : tie.Need-part-answer-end
-part-answer-end c = search needs
-
-answer-requires : tie.Need-answer-requires
-answer-requires c κs = search needs
-
-answered-requires : tie.Need-answered-requires
-answered-requires c κs = search needs
-
-same-length : tie.Need-same-length
-same-length c = search needs
-
-same-length-2 : tie.Need-same-length-2
-same-length-2 c = search needs
-
-same-length-3 : tie.Need-same-length-3
-same-length-3 c = search needs
-
 returns-2 : tie.Need-returns-2
 returns-2 c =
     let a = c .before .before .before .before .before .before .before .before .before .before .before .before .before .before .before .before .before .before .before .before .before .before .args in
@@ -56,14 +26,7 @@ end-input-spec =
     tie.close
     (tie.spec
     returns
-    made-room-requires
-    front-requires
-    sub-answer
-    part-answer-start
-    part-answer-end
-    answer-requires
-    answered-requires
-    same-length
-    same-length-2
-    same-length-3
+    (λ c κs. search needs) (λ c κs. search needs) (λ c. search needs) (λ c. search needs)  -- made-room-requires, front-requires, sub-answer, part-answer-start
+    (λ c. search needs) (λ c κs. search needs) (λ c κs. search needs) (λ c. search needs)  -- part-answer-end, answer-requires, answered-requires, same-length
+    (λ c. search needs) (λ c. search needs)  -- same-length-2, same-length-3
     returns-2)

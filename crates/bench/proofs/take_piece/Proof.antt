@@ -18,44 +18,8 @@ Inv-loop piece line₀ pool₀ out₀ texts₀ state₀ bench₀ at₀ end₀ li
 abbrev μ-loop : tie.MeasureT-loop
 μ-loop piece line₀ pool₀ out₀ texts₀ state₀ bench₀ at₀ end₀ line pool out texts state bench at end = length piece - at
 
-line-end-requires : tie.Need-line-end-requires Inv-loop μ-loop
-line-end-requires c κs = search needs
-
 loop-holds : tie.Need-loop-holds Inv-loop μ-loop
 loop-holds c = (omega arith, omega (arith, (c .line-end .ensures) .1 .1), refl, refl, refl, refl, ends-at ((c .before .before .before .before .before .before .before .before .args .piece) .now) 0 _ (omega arith) ((c .line-end .ensures) .0), refl, refl)
-
-made-room-requires : tie.Need-made-room-requires Inv-loop μ-loop
-made-room-requires c κs = search needs
-
-sub-part : tie.Need-sub-part Inv-loop μ-loop
-sub-part c = search needs
-
-part-part-start : tie.Need-part-part-start Inv-loop μ-loop
-part-part-start c = search needs
-
-part-part-end : tie.Need-part-part-end Inv-loop μ-loop
-part-part-end c = search needs
-
-sub-answer-line : tie.Need-sub-answer-line Inv-loop μ-loop
-sub-answer-line c = search needs
-
-part-answer-line-start : tie.Need-part-answer-line-start Inv-loop μ-loop
-part-answer-line-start c = search needs
-
-part-answer-line-end : tie.Need-part-answer-line-end Inv-loop μ-loop
-part-answer-line-end c = search needs
-
-answer-line-requires : tie.Need-answer-line-requires Inv-loop μ-loop
-answer-line-requires c κs = search needs
-
-answered-requires : tie.Need-answered-requires Inv-loop μ-loop
-answered-requires c κs = search needs
-
-past-requires : tie.Need-past-requires Inv-loop μ-loop
-past-requires c κs = search needs
-
-line-end-requires-2 : tie.Need-line-end-requires-2 Inv-loop μ-loop
-line-end-requires-2 c κs = search needs
 
 loop-less : tie.Need-loop-less Inv-loop μ-loop
 loop-less c = omega (arith, (c .before .past .ensures), (c .before .before .before .before .before .before .before .before .before .before .before .before .before .before .before .before .before .before .before .before .before .loop-test .taken), (c .before .before .before .before .before .before .before .before .before .before .before .before .before .before .before .before .before .before .before .before .before .before .loop .inv) .0)
@@ -83,30 +47,6 @@ loop-again c =
       kept-passed p (l .at) (l .end) (l .inv .6) (c .before .before .before .before .before .before .before .before .before .before .before .before .before .before .before .before .before .before .before .before .before .loop-test .taken) (c .before .past .ensures) line′ kept (said .0) ∙ l .inv .8,
     )
 
-sub-put : tie.Need-sub-put Inv-loop μ-loop
-sub-put c = search needs
-
-part-put-start : tie.Need-part-put-start Inv-loop μ-loop
-part-put-start c = search needs
-
-part-put-end : tie.Need-part-put-end Inv-loop μ-loop
-part-put-end c = search needs
-
-put-requires : tie.Need-put-requires Inv-loop μ-loop
-put-requires c κs = search needs
-
-same-length : tie.Need-same-length Inv-loop μ-loop
-same-length c = search needs
-
-same-length-2 : tie.Need-same-length-2 Inv-loop μ-loop
-same-length-2 c = search needs
-
-same-length-3 : tie.Need-same-length-3 Inv-loop μ-loop
-same-length-3 c = search needs
-
-same-length-4 : tie.Need-same-length-4 Inv-loop μ-loop
-same-length-4 c = search needs
-
 returns : tie.Need-returns Inv-loop μ-loop
 returns c =
     let p = (c .before .before .before .before .before .before .before .before .before .before .before .before .before .before .before .args .piece) .now in
@@ -123,27 +63,13 @@ take-piece-spec =
     (tie.spec
     Inv-loop
     μ-loop
-    line-end-requires
+    (λ c κs. search needs)  -- line-end-requires
     loop-holds
-    made-room-requires
-    sub-part
-    part-part-start
-    part-part-end
-    sub-answer-line
-    part-answer-line-start
-    part-answer-line-end
-    answer-line-requires
-    answered-requires
-    past-requires
-    line-end-requires-2
+    (λ c κs. search needs) (λ c. search needs) (λ c. search needs) (λ c. search needs)  -- made-room-requires, sub-part, part-part-start, part-part-end
+    (λ c. search needs) (λ c. search needs) (λ c. search needs) (λ c κs. search needs)  -- sub-answer-line, part-answer-line-start, part-answer-line-end, answer-line-requires
+    (λ c κs. search needs) (λ c κs. search needs) (λ c κs. search needs)  -- answered-requires, past-requires, line-end-requires-2
     loop-less
     loop-again
-    sub-put
-    part-put-start
-    part-put-end
-    put-requires
-    same-length
-    same-length-2
-    same-length-3
-    same-length-4
+    (λ c. search needs) (λ c. search needs) (λ c. search needs) (λ c κs. search needs)  -- sub-put, part-put-start, part-put-end, put-requires
+    (λ c. search needs) (λ c. search needs) (λ c. search needs) (λ c. search needs)  -- same-length, same-length-2, same-length-3, same-length-4
     returns)

@@ -5,15 +5,6 @@ use borrow.Author.Needs.{needs}
 use Rattle.benchline.proofs.answered.Statement.{statement}
 use Rattle.benchline.proofs.answered.Tie as tie
 
-offer-requires : tie.Need-offer-requires
-offer-requires c κs = search needs
-
-call-requires : tie.Need-call-requires
-call-requires c κs = search needs
-
-next-number-requires : tie.Need-next-number-requires
-next-number-requires c κs = search needs
-
 put-answer-requires : tie.Need-put-answer-requires
 put-answer-requires c κs = rw (c .before .before .before .before .before .before .before .call .kept .1 .1 .1 .0) (c .before .before .before .before .before .before .before .before .before .before .before .before .before .before .before .before .pre)
 
@@ -33,9 +24,7 @@ pub answered-spec : {M : Type 1} → statement M
 answered-spec =
     tie.close
     (tie.spec
-    offer-requires
-    call-requires
-    next-number-requires
+    (λ c κs. search needs) (λ c κs. search needs) (λ c κs. search needs)  -- offer-requires, call-requires, next-number-requires
     put-answer-requires
     same-length
     same-length-2

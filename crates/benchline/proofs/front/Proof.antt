@@ -11,17 +11,13 @@ use Rattle.benchline.proofs.front.Tie as tie
 returns : tie.Need-returns
 returns c = sym (take-all (c .before .args .count) (c .before .args .whole .now) (omega arith))
 
-sub-result : tie.Need-sub-result
-sub-result c = search needs
-
-part-result-start : tie.Need-part-result-start
-part-result-start c = search needs
-
-part-result-end : tie.Need-part-result-end
-part-result-end c = search needs
-
 returns-2 : tie.Need-returns-2
 returns-2 c = let z : (c .before .before .args .count) - 0 ≡ (c .before .before .args .count) = omega arith in rw z
 
 pub front-spec : {M : Type 1} → statement M
-front-spec = tie.close (tie.spec returns sub-result part-result-start part-result-end returns-2)
+front-spec =
+    tie.close
+    (tie.spec
+    returns
+    (λ c. search needs) (λ c. search needs) (λ c. search needs)  -- sub-result, part-result-start, part-result-end
+    returns-2)

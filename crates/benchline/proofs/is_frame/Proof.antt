@@ -7,18 +7,6 @@ use Rattle.benchline.proofs.Lines.{whole-frame}
 use Rattle.benchline.proofs.is_frame.Statement.{statement}
 use Rattle.benchline.proofs.is_frame.Tie as tie
 
-read-requires : tie.Need-read-requires
-read-requires c κs = search needs
-
-enum-told : tie.Need-enum-told
-enum-told c = search needs
-
-enum-told-2 : tie.Need-enum-told-2
-enum-told-2 c = search needs
-
-enum-known-extent : tie.Need-enum-known-extent
-enum-known-extent c = search needs
-
 returns : tie.Need-returns
 returns c = rw (← (c .before .before .read .ensures), (c .enum-told .given .1))
 
@@ -31,4 +19,8 @@ returns-3 c = whole-frame (c .before .before .before .before .before .before .ar
 pub is-frame-spec : {M : Type 1} → statement M
 is-frame-spec =
     tie.close
-    (tie.spec read-requires enum-told enum-told-2 enum-known-extent returns returns-2 returns-3)
+    (tie.spec
+    (λ c κs. search needs) (λ c. search needs) (λ c. search needs) (λ c. search needs)  -- read-requires, enum-told, enum-told-2, enum-known-extent
+    returns
+    returns-2
+    returns-3)

@@ -11,33 +11,12 @@ use borrow.Author.Needs.{needs}
 use Rattle.benchline.proofs.line.Statement.{statement}
 use Rattle.benchline.proofs.line.Tie as tie
 
-has-room-requires : tie.Need-has-room-requires
-has-room-requires c κs = search needs
-
 returns : tie.Need-returns
 unfolding lineOf
 returns c = rw (sym (c .before .has-room .ensures) ∙ not-true (c .before .has-room .result) (c .if1 .taken))
 
-slice-aggregate-read-line : tie.Need-slice-aggregate-read-line
-slice-aggregate-read-line c = search needs
-
-read-line-requires : tie.Need-read-line-requires
-read-line-requires c κs = search needs
-
-enum-known-count : tie.Need-enum-known-count
-enum-known-count c = search needs
-
-slice-aggregate-front : tie.Need-slice-aggregate-front
-slice-aggregate-front c = search needs
-
-front-requires : tie.Need-front-requires
-front-requires c κs = search needs
-
 answered-requires : tie.Need-answered-requires
 answered-requires c κs = leb-true (mostText (c .before .before .before .before .before .before .before .before .before .before .before .before .before .before .before .before .before .args .out .now)) (length (c .before .before .before .before .before .before .before .before .before .before .before .before .before .before .before .before .before .args .text .now)) (sym (c .before .before .before .before .before .before .before .before .before .before .before .before .has-room .ensures) ∙ not-false (c .before .before .before .before .before .before .before .before .before .before .before .before .has-room .result) (c .before .before .before .before .before .before .before .before .before .before .before .if1 .left))
-
-enum-told : tie.Need-enum-told
-enum-told c = search needs
 
 refused-requires : tie.Need-refused-requires
 refused-requires c κs = room-least (c .before .before .before .before .before .before .before .before .before .before .before .before .args .out .now) (leb-true (mostText (c .before .before .before .before .before .before .before .before .before .before .before .before .args .out .now)) (length (c .before .before .before .before .before .before .before .before .before .before .before .before .args .text .now)) (sym (c .before .before .before .before .before .before .before .has-room .ensures) ∙ not-false (c .before .before .before .before .before .before .before .has-room .result) (c .before .before .before .before .before .before .if1 .left)))
@@ -69,15 +48,12 @@ pub line-spec : {M : Type 1} → statement M
 line-spec =
     tie.close
     (tie.spec
-    has-room-requires
+    (λ c κs. search needs)  -- has-room-requires
     returns
-    slice-aggregate-read-line
-    read-line-requires
-    enum-known-count
-    slice-aggregate-front
-    front-requires
+    (λ c. search needs) (λ c κs. search needs) (λ c. search needs) (λ c. search needs)  -- slice-aggregate-read-line, read-line-requires, enum-known-count, slice-aggregate-front
+    (λ c κs. search needs)  -- front-requires
     answered-requires
-    enum-told
+    (λ c. search needs)  -- enum-told
     refused-requires
     same-length
     same-length-2

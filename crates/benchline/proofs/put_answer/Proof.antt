@@ -7,17 +7,11 @@ use borrow.Author.Needs.{needs}
 use Rattle.benchline.proofs.put_answer.Statement.{statement}
 use Rattle.benchline.proofs.put_answer.Tie as tie
 
-put-number-requires : tie.Need-put-number-requires
-put-number-requires c κs = search needs
-
 put-verdict-requires : tie.Need-put-verdict-requires
 put-verdict-requires c κs = omega (arith, (c .before .before .before .before .before .before .before .pre), (c .before .before .before .put-number .ensures .1))
 
 put-byte-requires : tie.Need-put-byte-requires
 put-byte-requires c κs = omega (arith, (c .before .before .before .before .before .before .before .before .before .before .before .pre), (c .before .before .before .before .before .before .before .put-number .ensures .1), (c .before .before .before .put-verdict .ensures .1))
-
-same-length : tie.Need-same-length
-same-length c = search needs
 
 returns : tie.Need-returns
 returns c = text-put (c .before .before .before .before .before .before .before .before .before .before .before .before .before .before .args .number) (verdictOf (c .before .before .before .before .before .before .before .before .before .before .before .before .before .before .args .answer) (c .before .before .before .before .before .before .before .before .before .before .before .before .before .before .args .out .now)) (c .before .before .before .before .before .before .before .before .before .before .before .before .before .before .args .text .now) (omega (arith, (c .before .before .before .before .before .before .before .before .before .before .before .before .before .before .pre), (c .before .before .before .before .before .before .before .before .before .before .put-number .ensures .1), (c .before .before .before .before .before .before .put-verdict .ensures .1))) (verdict-some (c .before .before .before .before .before .before .before .before .before .before .before .before .before .before .args .answer) (c .before .before .before .before .before .before .before .before .before .before .before .before .before .before .args .out .now)) (c .before .before .before .before .before .before .before .before .before .before .put-number .ensures .0) (c .before .before .before .before .before .before .put-verdict .ensures .0) (c .before .before .put-byte .ensures)
@@ -25,4 +19,9 @@ returns c = text-put (c .before .before .before .before .before .before .before 
 pub put-answer-spec : {M : Type 1} → statement M
 put-answer-spec =
     tie.close
-    (tie.spec put-number-requires put-verdict-requires put-byte-requires same-length returns)
+    (tie.spec
+    (λ c κs. search needs)  -- put-number-requires
+    put-verdict-requires
+    put-byte-requires
+    (λ c. search needs)  -- same-length
+    returns)

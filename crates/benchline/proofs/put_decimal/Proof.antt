@@ -8,35 +8,11 @@ use borrow.Author.Needs.{needs}
 use Rattle.benchline.proofs.put_decimal.Statement.{statement}
 use Rattle.benchline.proofs.put_decimal.Tie as tie
 
-sub-number-to-decimal : tie.Need-sub-number-to-decimal
-sub-number-to-decimal c = search needs
-
-part-number-to-decimal-start : tie.Need-part-number-to-decimal-start
-part-number-to-decimal-start c = search needs
-
-part-number-to-decimal-end : tie.Need-part-number-to-decimal-end
-part-number-to-decimal-end c = search needs
-
-number-to-decimal-requires : tie.Need-number-to-decimal-requires
-number-to-decimal-requires c κs = search needs
-
-enum-known-count : tie.Need-enum-known-count
-enum-known-count c = search needs
-
 add-result : tie.Need-add-result
 add-result c = omega (arith, (c .before .before .before .before .before .before .before .before .pre), rest-count (decimalOf (c .before .before .before .before .before .before .before .before .args .number)) (c .before .before .before .before .before .before .before .before .args .text .now) (c .before .before .before .before .before .before .before .before .args .at) (c .before .before .before .before .before .before .before .before .pre) (c .before .before .before .before .before .number-to-decimal .ensures) (c .before .count .given .1))
 
-enum-told : tie.Need-enum-told
-enum-told c = search needs
-
-same-length : tie.Need-same-length
-same-length c = search needs
-
 returns : tie.Need-returns
 returns c = rest-put (decimalOf (c .before .before .before .before .before .before .before .before .args .number)) (c .before .before .before .before .before .before .before .before .args .text .now) (c .before .before .before .before .before .before .before .before .args .at) (c .before .before .before .before .before .before .before .before .pre) (c .before .before .before .before .before .number-to-decimal .ensures) (c .before .count .given .1) refl
-
-same-length-2 : tie.Need-same-length-2
-same-length-2 c = search needs
 
 returns-2 : tie.Need-returns-2
 returns-2 c = absurd (rest-full (decimalOf (c .before .before .before .before .before .before .before .args .number)) (c .before .before .before .before .before .before .before .args .text .now) (c .before .before .before .before .before .before .before .args .at) (c .before .before .before .before .before .before .before .pre) (c .before .before .before .before .number-to-decimal .ensures) (c .enum-told .given .1))
@@ -45,14 +21,10 @@ pub put-decimal-spec : {M : Type 1} → statement M
 put-decimal-spec =
     tie.close
     (tie.spec
-    sub-number-to-decimal
-    part-number-to-decimal-start
-    part-number-to-decimal-end
-    number-to-decimal-requires
-    enum-known-count
+    (λ c. search needs) (λ c. search needs) (λ c. search needs) (λ c κs. search needs)  -- sub-number-to-decimal, part-number-to-decimal-start, part-number-to-decimal-end, number-to-decimal-requires
+    (λ c. search needs)  -- enum-known-count
     add-result
-    enum-told
-    same-length
+    (λ c. search needs) (λ c. search needs)  -- enum-told, same-length
     returns
-    same-length-2
+    (λ c. search needs)  -- same-length-2
     returns-2)

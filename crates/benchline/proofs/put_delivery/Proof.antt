@@ -10,20 +10,11 @@ use borrow.Author.Needs.{needs}
 use Rattle.benchline.proofs.put_delivery.Statement.{statement}
 use Rattle.benchline.proofs.put_delivery.Tie as tie
 
-put-byte-requires : tie.Need-put-byte-requires
-put-byte-requires c κs = search needs
-
-slice-aggregate-put-part : tie.Need-slice-aggregate-put-part
-slice-aggregate-put-part c = search needs
-
 put-part-requires : tie.Need-put-part-requires
 put-part-requires c κs = omega (arith, (c .before .before .before .before .before .before .before .before .pre), (c .before .before .before .before .put-byte .ensures .ends))
 
 put-part-requires-2 : tie.Need-put-part-requires-2
 put-part-requires-2 c κs = omega (arith, (c .before .before .before .before .before .before .before .before .before .before .before .before .pre), (c .before .before .before .before .before .before .before .before .put-byte .ensures .ends), (c .before .before .before .put-part .ensures .ends), spaced-service (c .before .before .before .before .before .before .before .before .before .before .before .before .args .service .0))
-
-same-length : tie.Need-same-length
-same-length c = search needs
 
 returns : tie.Need-returns
 returns c = let s = spaced (hexOf ((c .before .before .before .before .before .before .before .before .before .before .before .before .before .before .before .args .service .0) ∷ [])) in
@@ -34,9 +25,8 @@ pub put-delivery-spec : {M : Type 1} → statement M
 put-delivery-spec =
     tie.close
     (tie.spec
-    put-byte-requires
-    slice-aggregate-put-part
+    (λ c κs. search needs) (λ c. search needs)  -- put-byte-requires, slice-aggregate-put-part
     put-part-requires
     put-part-requires-2
-    same-length
+    (λ c. search needs)  -- same-length
     returns)

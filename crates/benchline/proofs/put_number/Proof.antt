@@ -15,12 +15,15 @@ put-decimal-requires c κs = omega (arith, (c .before .before .pre), width-most 
 put-byte-requires : tie.Need-put-byte-requires
 put-byte-requires c κs = omega (arith, (c .before .before .before .before .before .before .pre), (c .before .before .before .put-decimal .ensures .ends), width-most 19 (c .before .before .before .before .before .before .args .number) (omega arith))
 
-same-length : tie.Need-same-length
-same-length c = search needs
-
 returns : tie.Need-returns
 returns c = let w = width-most 19 (c .before .before .before .before .before .before .before .before .before .args .number) (omega arith) in
     (more (decimalOf (c .before .before .before .before .before .before .before .before .before .args .number)) (32 ∷ []) (omega (arith, (c .before .before .before .before .before .before .before .before .before .pre))) (c .before .before .before .before .before .before .put-decimal .ensures) (c .before .before .put-byte .ensures), omega (arith, (c .before .before .before .before .before .before .put-decimal .ensures .ends), (c .before .before .put-byte .ensures .ends)))
 
 pub put-number-spec : {M : Type 1} → statement M
-put-number-spec = tie.close (tie.spec put-decimal-requires put-byte-requires same-length returns)
+put-number-spec =
+    tie.close
+    (tie.spec
+    put-decimal-requires
+    put-byte-requires
+    (λ c. search needs)  -- same-length
+    returns)

@@ -9,18 +9,18 @@ use Rattle.benchline.proofs.put_part.Tie as tie
 returns : tie.Need-returns
 returns c = none-put (c .before .before .before .args .bytes .now) _ _ (omega arith)
 
-put-byte-requires : tie.Need-put-byte-requires
-put-byte-requires c κs = search needs
-
 put-hex-requires : tie.Need-put-hex-requires
 put-hex-requires c κs = omega (arith, (c .before .before .before .before .before .before .before .before .pre), (c .before .before .before .put-byte .ensures .ends))
-
-same-length : tie.Need-same-length
-same-length c = search needs
 
 returns-2 : tie.Need-returns-2
 returns-2 c = part-put (c .before .before .before .before .before .before .before .before .before .before .before .args .bytes .now) (c .before .before .before .before .before .before .before .before .before .before .before .args .text .now) (omega (arith, (c .before .before .before .before .before .before .before .before .if1 .left))) (omega (arith, (c .before .before .before .before .before .before .before .before .before .before .before .pre))) (c .before .before .before .before .before .before .put-byte .ensures) (c .before .before .put-hex .ensures)
 
 pub put-part-spec : {M : Type 1} → statement M
 put-part-spec =
-    tie.close (tie.spec returns put-byte-requires put-hex-requires same-length returns-2)
+    tie.close
+    (tie.spec
+    returns
+    (λ c κs. search needs)  -- put-byte-requires
+    put-hex-requires
+    (λ c. search needs)  -- same-length
+    returns-2)

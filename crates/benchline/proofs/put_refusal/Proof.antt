@@ -13,17 +13,11 @@ use borrow.Author.Needs.{needs}
 use Rattle.benchline.proofs.put_refusal.Statement.{statement}
 use Rattle.benchline.proofs.put_refusal.Tie as tie
 
-put-byte-requires : tie.Need-put-byte-requires
-put-byte-requires c κs = search needs
-
 put-byte-requires-2 : tie.Need-put-byte-requires-2
 put-byte-requires-2 c κs = omega (arith, (c .before .before .before .before .before .before .pre), (c .before .before .before .put-byte .ensures .ends))
 
 put-decimal-requires : tie.Need-put-decimal-requires
 put-decimal-requires c κs = omega (arith, (c .before .before .before .before .before .before .before .before .before .before .pre), (c .before .before .before .before .before .before .before .put-byte .ensures .ends), (c .before .before .before .put-byte2 .ensures .ends), width-most 2 (c .before .before .before .before .before .before .before .before .before .before .args .number) (omega arith))
-
-same-length : tie.Need-same-length
-same-length c = search needs
 
 returns : tie.Need-returns
 returns c = renamed (ap (λ (l : List ℕ). letterR ∷ l) (spaced-some (decimalOf (c .before .before .before .before .before .before .before .before .before .before .before .before .before .args .number)) (width-some (c .before .before .before .before .before .before .before .before .before .before .before .before .before .args .number))))
@@ -33,4 +27,9 @@ returns c = renamed (ap (λ (l : List ℕ). letterR ∷ l) (spaced-some (decimal
 pub put-refusal-spec : {M : Type 1} → statement M
 put-refusal-spec =
     tie.close
-    (tie.spec put-byte-requires put-byte-requires-2 put-decimal-requires same-length returns)
+    (tie.spec
+    (λ c κs. search needs)  -- put-byte-requires
+    put-byte-requires-2
+    put-decimal-requires
+    (λ c. search needs)  -- same-length
+    returns)

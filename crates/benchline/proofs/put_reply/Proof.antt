@@ -9,17 +9,17 @@ use borrow.Author.Needs.{needs}
 use Rattle.benchline.proofs.put_reply.Statement.{statement}
 use Rattle.benchline.proofs.put_reply.Tie as tie
 
-put-byte-requires : tie.Need-put-byte-requires
-put-byte-requires c κs = search needs
-
 put-part-requires : tie.Need-put-part-requires
 put-part-requires c κs = omega (arith, (c .before .before .before .before .before .before .before .pre), (c .before .before .before .put-byte .ensures .ends))
-
-same-length : tie.Need-same-length
-same-length c = search needs
 
 returns : tie.Need-returns
 returns c = more (letterW ∷ []) (spaced (hexOf (c .before .before .before .before .before .before .before .before .before .before .args .bytes .now))) (omega (arith, (c .before .before .before .before .before .before .before .before .before .before .pre))) (c .before .before .before .before .before .before .put-byte .ensures) (c .before .before .put-part .ensures)
 
 pub put-reply-spec : {M : Type 1} → statement M
-put-reply-spec = tie.close (tie.spec put-byte-requires put-part-requires same-length returns)
+put-reply-spec =
+    tie.close
+    (tie.spec
+    (λ c κs. search needs)  -- put-byte-requires
+    put-part-requires
+    (λ c. search needs)  -- same-length
+    returns)

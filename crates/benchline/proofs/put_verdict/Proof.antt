@@ -16,98 +16,35 @@ use borrow.Author.Needs.{needs}
 use Rattle.benchline.proofs.put_verdict.Statement.{statement}
 use Rattle.benchline.proofs.put_verdict.Tie as tie
 
-enum-told : tie.Need-enum-told
-enum-told c = search needs
-
-put-byte-requires : tie.Need-put-byte-requires
-put-byte-requires c κs = search needs
-
-enum-known-answer : tie.Need-enum-known-answer
-enum-known-answer c = search needs
-
-put-refusal-requires : tie.Need-put-refusal-requires
-put-refusal-requires c κs = search needs
-
-enum-known-answer-2 : tie.Need-enum-known-answer-2
-enum-known-answer-2 c = search needs
-
-front-requires : tie.Need-front-requires
-front-requires c κs = search needs
-
 put-reply-requires : tie.Need-put-reply-requires
 put-reply-requires c κs = omega (arith, (c .before .before .before .before .before .before .before .pre), front-short (c .before .before .before .answer2 .given .0 .1 .0) (c .before .before .before .before .before .before .before .args .out .now) (c .before .front .ensures))
-
-enum-known-answer-3 : tie.Need-enum-known-answer-3
-enum-known-answer-3 c = search needs
-
-front-requires-2 : tie.Need-front-requires-2
-front-requires-2 c κs = search needs
 
 put-reply-requires-2 : tie.Need-put-reply-requires-2
 put-reply-requires-2 c κs = omega (arith, (c .before .before .before .before .before .before .before .pre), front-short (c .before .before .before .answer3 .given .0 .1 .0) (c .before .before .before .before .before .before .before .args .out .now) (c .before .front2 .ensures))
 
-enum-known-answer-4 : tie.Need-enum-known-answer-4
-enum-known-answer-4 c = search needs
-
-front-requires-3 : tie.Need-front-requires-3
-front-requires-3 c κs = search needs
-
 put-reply-requires-3 : tie.Need-put-reply-requires-3
 put-reply-requires-3 c κs = omega (arith, (c .before .before .before .before .before .before .before .pre), front-short (c .before .before .before .answer4 .given .0 .1 .0) (c .before .before .before .before .before .before .before .args .out .now) (c .before .front3 .ensures))
-
-enum-told-2 : tie.Need-enum-told-2
-enum-told-2 c = search needs
-
-put-byte-requires-2 : tie.Need-put-byte-requires-2
-put-byte-requires-2 c κs = search needs
-
-enum-known-answer-5 : tie.Need-enum-known-answer-5
-enum-known-answer-5 c = search needs
-
-front-requires-4 : tie.Need-front-requires-4
-front-requires-4 c κs = search needs
 
 put-delivery-requires : tie.Need-put-delivery-requires
 put-delivery-requires c κs = omega (arith, (c .before .before .before .before .before .before .before .pre), front-short (c .before .before .before .answer5 .given .0 .1 .1 .0) (c .before .before .before .before .before .before .before .args .out .now) (c .before .front4 .ensures))
 
-same-length : tie.Need-same-length
-same-length c = search needs
-
 returns : tie.Need-returns
 returns c = (renamed (sym (ap (λ (x : Answer). verdictOf x (c .before .before .before .before .before .before .before .before .args .out .now)) (c .before .before .before .before .enum-told .given .1))) (c .before .before .put-byte .ensures), omega (arith, (c .before .before .put-byte .ensures .ends)))
-
-same-length-2 : tie.Need-same-length-2
-same-length-2 c = search needs
 
 returns-2 : tie.Need-returns-2
 returns-2 c = (renamed (sym (ap (λ (x : Answer). verdictOf x (c .before .before .before .before .before .before .before .before .before .args .out .now)) (c .before .before .before .before .before .answer .given .1))) (c .before .before .put-refusal .ensures), omega (arith, (c .before .before .put-refusal .ensures .ends), spaced-most (decimalOf (c .before .before .before .before .before .answer .given .0 .0)), width-most 2 (c .before .before .before .before .before .answer .given .0 .0) (omega arith)))
 
-same-length-3 : tie.Need-same-length-3
-same-length-3 c = search needs
-
 returns-3 : tie.Need-returns-3
 returns-3 c = (reply-said (c .before .before .before .before .before .before .answer2 .given .0 .1 .0) (c .before .before .before .before .before .before .before .before .before .before .args .out .now) (ap (λ (x : Answer). verdictOf x (c .before .before .before .before .before .before .before .before .before .before .args .out .now)) (c .before .before .before .before .before .before .answer2 .given .1)) (c .before .before .before .before .front .ensures) (c .before .before .put-reply .ensures), omega (arith, (c .before .before .put-reply .ensures .ends), spaced-most (hexOf (c .before .before .before .before .front .result .now)), length-hex (c .before .before .before .before .front .result .now), front-short (c .before .before .before .before .before .before .answer2 .given .0 .1 .0) (c .before .before .before .before .before .before .before .before .before .before .args .out .now) (c .before .before .before .before .front .ensures)))
-
-same-length-4 : tie.Need-same-length-4
-same-length-4 c = search needs
 
 returns-4 : tie.Need-returns-4
 returns-4 c = (reply-said (c .before .before .before .before .before .before .answer3 .given .0 .1 .0) (c .before .before .before .before .before .before .before .before .before .before .args .out .now) (ap (λ (x : Answer). verdictOf x (c .before .before .before .before .before .before .before .before .before .before .args .out .now)) (c .before .before .before .before .before .before .answer3 .given .1)) (c .before .before .before .before .front2 .ensures) (c .before .before .put-reply2 .ensures), omega (arith, (c .before .before .put-reply2 .ensures .ends), spaced-most (hexOf (c .before .before .before .before .front2 .result .now)), length-hex (c .before .before .before .before .front2 .result .now), front-short (c .before .before .before .before .before .before .answer3 .given .0 .1 .0) (c .before .before .before .before .before .before .before .before .before .before .args .out .now) (c .before .before .before .before .front2 .ensures)))
 
-same-length-5 : tie.Need-same-length-5
-same-length-5 c = search needs
-
 returns-5 : tie.Need-returns-5
 returns-5 c = (reply-said (c .before .before .before .before .before .before .answer4 .given .0 .1 .0) (c .before .before .before .before .before .before .before .before .before .before .args .out .now) (ap (λ (x : Answer). verdictOf x (c .before .before .before .before .before .before .before .before .before .before .args .out .now)) (c .before .before .before .before .before .before .answer4 .given .1)) (c .before .before .before .before .front3 .ensures) (c .before .before .put-reply3 .ensures), omega (arith, (c .before .before .put-reply3 .ensures .ends), spaced-most (hexOf (c .before .before .before .before .front3 .result .now)), length-hex (c .before .before .before .before .front3 .result .now), front-short (c .before .before .before .before .before .before .answer4 .given .0 .1 .0) (c .before .before .before .before .before .before .before .before .before .before .args .out .now) (c .before .before .before .before .front3 .ensures)))
 
-same-length-6 : tie.Need-same-length-6
-same-length-6 c = search needs
-
 returns-6 : tie.Need-returns-6
 returns-6 c = (renamed (sym (ap (λ (x : Answer). verdictOf x (c .before .before .before .before .before .before .before .before .args .out .now)) (c .before .before .before .before .enum-told2 .given .1))) (c .before .before .put-byte2 .ensures), omega (arith, (c .before .before .put-byte2 .ensures .ends)))
-
-same-length-7 : tie.Need-same-length-7
-same-length-7 c = search needs
 
 returns-7 : tie.Need-returns-7
 returns-7 c = (delivery-said (c .before .before .before .before .before .before .answer5 .given .0 .1 .1 .0) (c .before .before .before .before .before .before .before .before .before .before .args .out .now) (c .before .before .before .before .before .before .answer5 .given .0 .1 .0) (ap (λ (x : Answer). verdictOf x (c .before .before .before .before .before .before .before .before .before .before .args .out .now)) (c .before .before .before .before .before .before .answer5 .given .1)) (c .before .before .before .before .front4 .ensures) (c .before .before .put-delivery .ensures), omega (arith, (c .before .before .put-delivery .ensures .ends), length-append (spaced (hexOf ((c .before .before .before .before .before .before .answer5 .given .0 .1 .0 .0) ∷ []))) (spaced (hexOf (c .before .before .before .before .front4 .result .now))), spaced-service (c .before .before .before .before .before .before .answer5 .given .0 .1 .0 .0), spaced-most (hexOf (c .before .before .before .before .front4 .result .now)), length-hex (c .before .before .before .before .front4 .result .now), front-short (c .before .before .before .before .before .before .answer5 .given .0 .1 .1 .0) (c .before .before .before .before .before .before .before .before .before .before .args .out .now) (c .before .before .before .before .front4 .ensures)))
@@ -116,35 +53,26 @@ pub put-verdict-spec : {M : Type 1} → statement M
 put-verdict-spec =
     tie.close
     (tie.spec
-    enum-told
-    put-byte-requires
-    enum-known-answer
-    put-refusal-requires
-    enum-known-answer-2
-    front-requires
+    (λ c. search needs) (λ c κs. search needs) (λ c. search needs) (λ c κs. search needs)  -- enum-told, put-byte-requires, enum-known-answer, put-refusal-requires
+    (λ c. search needs) (λ c κs. search needs)  -- enum-known-answer-2, front-requires
     put-reply-requires
-    enum-known-answer-3
-    front-requires-2
+    (λ c. search needs) (λ c κs. search needs)  -- enum-known-answer-3, front-requires-2
     put-reply-requires-2
-    enum-known-answer-4
-    front-requires-3
+    (λ c. search needs) (λ c κs. search needs)  -- enum-known-answer-4, front-requires-3
     put-reply-requires-3
-    enum-told-2
-    put-byte-requires-2
-    enum-known-answer-5
-    front-requires-4
+    (λ c. search needs) (λ c κs. search needs) (λ c. search needs) (λ c κs. search needs)  -- enum-told-2, put-byte-requires-2, enum-known-answer-5, front-requires-4
     put-delivery-requires
-    same-length
+    (λ c. search needs)  -- same-length
     returns
-    same-length-2
+    (λ c. search needs)  -- same-length-2
     returns-2
-    same-length-3
+    (λ c. search needs)  -- same-length-3
     returns-3
-    same-length-4
+    (λ c. search needs)  -- same-length-4
     returns-4
-    same-length-5
+    (λ c. search needs)  -- same-length-5
     returns-5
-    same-length-6
+    (λ c. search needs)  -- same-length-6
     returns-6
-    same-length-7
+    (λ c. search needs)  -- same-length-7
     returns-7)

@@ -13,39 +13,12 @@ use Rattle.benchline.proofs.read_line.Tie as tie
 returns : tie.Need-returns
 returns c = reads-none (c .before .before .before .args .digits .now) _ (too-long (c .before .before .before .args .digits .now) (omega arith))
 
-hex-to-bytes-requires : tie.Need-hex-to-bytes-requires
-hex-to-bytes-requires c κs = search needs
-
-enum-known-count : tie.Need-enum-known-count
-enum-known-count c = search needs
-
-front-requires : tie.Need-front-requires
-front-requires c κs = search needs
-
-is-frame-requires : tie.Need-is-frame-requires
-is-frame-requires c κs = search needs
-
-same-length : tie.Need-same-length
-same-length c = search needs
-
 returns-2 : tie.Need-returns-2
 returns-2 c = let d = (c .before .before .before .before .before .before .before .before .before .before .before .before .before .before .args .digits .now) in
     let o = (c .before .before .before .before .before .before .before .before .before .before .before .before .before .before .args .bytes .now) in
     let s = decode-says d o (c .before .before .before .before .before .before .before .before .before .hex-to-bytes .ensures) (c .before .before .before .before .before .count .given .1) in
     let f = front-bytes d o (c .before .before .front .ensures) (s .1 .1 .0) (s .1 .1 .1) in
     reads-frame d _ (frame-line d (omega arith) (s .0) (s .1 .0) f (c .before .is-frame .ensures) ∙ (c .if2 .taken)) (s .1 .1 .0) (sym (c .before .before .front .ensures) ∙ f)
-
-enum-told : tie.Need-enum-told
-enum-told c = search needs
-
-enum-told-2 : tie.Need-enum-told-2
-enum-told-2 c = search needs
-
-enum-told-3 : tie.Need-enum-told-3
-enum-told-3 c = search needs
-
-same-length-2 : tie.Need-same-length-2
-same-length-2 c = search needs
 
 returns-3 : tie.Need-returns-3
 returns-3 c = let d = (c .before .before .before .before .before .before .before .before .before .before .before .before .before .before .args .digits .now) in
@@ -54,20 +27,11 @@ returns-3 c = let d = (c .before .before .before .before .before .before .before
     let f = front-bytes d o (c .before .before .front .ensures) (s .1 .1 .0) (s .1 .1 .1) in
     reads-none d _ (frame-line d (omega arith) (s .0) (s .1 .0) f (c .before .is-frame .ensures) ∙ (c .if2 .left))
 
-same-length-3 : tie.Need-same-length-3
-same-length-3 c = search needs
-
 returns-4 : tie.Need-returns-4
 returns-4 c = reads-none (c .before .before .before .before .before .before .before .before .before .args .digits .now) _ (odd-line (c .before .before .before .before .before .before .before .before .before .args .digits .now) (omega arith) (decode-says (c .before .before .before .before .before .before .before .before .before .args .digits .now) (c .before .before .before .before .before .before .before .before .before .args .bytes .now) (c .before .before .before .before .hex-to-bytes .ensures) (c .enum-told .given .1)))
 
-same-length-4 : tie.Need-same-length-4
-same-length-4 c = search needs
-
 returns-5 : tie.Need-returns-5
 returns-5 c = reads-none (c .before .before .before .before .before .before .before .before .before .args .digits .now) _ (other-line (c .before .before .before .before .before .before .before .before .before .args .digits .now) (omega arith) (decode-says (c .before .before .before .before .before .before .before .before .before .args .digits .now) (c .before .before .before .before .before .before .before .before .before .args .bytes .now) (c .before .before .before .before .hex-to-bytes .ensures) (c .enum-told2 .given .1)))
-
-same-length-5 : tie.Need-same-length-5
-same-length-5 c = search needs
 
 returns-6 : tie.Need-returns-6
 returns-6 c = let s = decode-says (c .before .before .before .before .before .before .before .before .before .args .digits .now) (c .before .before .before .before .before .before .before .before .before .args .bytes .now) (c .before .before .before .before .hex-to-bytes .ensures) (c .enum-told3 .given .1) in
@@ -78,20 +42,14 @@ read-line-spec =
     tie.close
     (tie.spec
     returns
-    hex-to-bytes-requires
-    enum-known-count
-    front-requires
-    is-frame-requires
-    same-length
+    (λ c κs. search needs) (λ c. search needs) (λ c κs. search needs) (λ c κs. search needs)  -- hex-to-bytes-requires, enum-known-count, front-requires, is-frame-requires
+    (λ c. search needs)  -- same-length
     returns-2
-    enum-told
-    enum-told-2
-    enum-told-3
-    same-length-2
+    (λ c. search needs) (λ c. search needs) (λ c. search needs) (λ c. search needs)  -- enum-told, enum-told-2, enum-told-3, same-length-2
     returns-3
-    same-length-3
+    (λ c. search needs)  -- same-length-3
     returns-4
-    same-length-4
+    (λ c. search needs)  -- same-length-4
     returns-5
-    same-length-5
+    (λ c. search needs)  -- same-length-5
     returns-6)

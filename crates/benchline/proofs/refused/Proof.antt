@@ -5,18 +5,12 @@ use borrow.Author.Needs.{needs}
 use Rattle.benchline.proofs.refused.Statement.{statement}
 use Rattle.benchline.proofs.refused.Tie as tie
 
-next-number-requires : tie.Need-next-number-requires
-next-number-requires c κs = search needs
-
-put-not-taken-requires : tie.Need-put-not-taken-requires
-put-not-taken-requires c κs = search needs
-
-same-length : tie.Need-same-length
-same-length c = search needs
-
 returns : tie.Need-returns
 returns c = λ pool out. refused-is (c .before .before .before .before .before .before .before .args .text .now) (c .before .before .before .before .before .before .before .args .bench) pool out (c .before .before .before .before .before .next-number .ensures) (c .before .before .before .put-not-taken .ensures)
 
 pub refused-spec : {M : Type 1} → statement M
 refused-spec =
-    tie.close (tie.spec next-number-requires put-not-taken-requires same-length returns)
+    tie.close
+    (tie.spec
+    (λ c κs. search needs) (λ c κs. search needs) (λ c. search needs)  -- next-number-requires, put-not-taken-requires, same-length
+    returns)

@@ -8,12 +8,13 @@ use borrow.Author.Needs.{needs}
 use Rattle.benchline.proofs.start.Statement.{statement}
 use Rattle.benchline.proofs.start.Tie as tie
 
-create-requires : tie.Need-create-requires
-create-requires c κs = search needs
-
 returns : tie.Need-returns
 unfolding creationOf
 returns c = ap (λ (x : Created). benchWith (x .link) 0) (c .before .create .ensures)
 
 pub start-spec : {M : Type 1} → statement M
-start-spec = tie.close (tie.spec create-requires returns)
+start-spec =
+    tie.close
+    (tie.spec
+    (λ c κs. search needs)  -- create-requires
+    returns)

@@ -12,38 +12,17 @@ use Rattle.capture.proofs.put_fields.Tie as tie
 put-message-requires : tie.Need-put-message-requires
 put-message-requires c κs = let p = (c .before .before .before .pre) in (p .1 .1 .0, ap (λ (h : Header). h .message) (p .1 .1 .1))
 
-be4-requires : tie.Need-be4-requires
-be4-requires c κs = search needs
-
-put-be4-requires : tie.Need-put-be4-requires
-put-be4-requires c κs = search needs
-
-slice-write-fields : tie.Need-slice-write-fields
-slice-write-fields c = search needs
-
-flag-byte-requires : tie.Need-flag-byte-requires
-flag-byte-requires c κs = search needs
-
 slice-write-fields-2 : tie.Need-slice-write-fields-2
 slice-write-fields-2 c = simp length-set (omega arith)
 
 slice-write-fields-3 : tie.Need-slice-write-fields-3
 slice-write-fields-3 c = simp length-set (omega arith)
 
-shared-slice-read-fields : tie.Need-shared-slice-read-fields
-shared-slice-read-fields c = search needs
-
 slice-write-fields-4 : tie.Need-slice-write-fields-4
 slice-write-fields-4 c = simp length-set (omega arith)
 
-shared-slice-read-fields-2 : tie.Need-shared-slice-read-fields-2
-shared-slice-read-fields-2 c = search needs
-
 slice-write-fields-5 : tie.Need-slice-write-fields-5
 slice-write-fields-5 c = simp length-set (omega arith)
-
-shared-slice-read-fields-3 : tie.Need-shared-slice-read-fields-3
-shared-slice-read-fields-3 c = search needs
 
 slice-write-fields-6 : tie.Need-slice-write-fields-6
 slice-write-fields-6 c = simp length-set (omega arith)
@@ -67,17 +46,14 @@ put-fields-spec =
     tie.close
     (tie.spec
     put-message-requires
-    be4-requires
-    put-be4-requires
-    slice-write-fields
-    flag-byte-requires
+    (λ c κs. search needs) (λ c κs. search needs) (λ c. search needs) (λ c κs. search needs)  -- be4-requires, put-be4-requires, slice-write-fields, flag-byte-requires
     slice-write-fields-2
     slice-write-fields-3
-    shared-slice-read-fields
+    (λ c. search needs)  -- shared-slice-read-fields
     slice-write-fields-4
-    shared-slice-read-fields-2
+    (λ c. search needs)  -- shared-slice-read-fields-2
     slice-write-fields-5
-    shared-slice-read-fields-3
+    (λ c. search needs)  -- shared-slice-read-fields-3
     slice-write-fields-6
     slice-write-fields-7
     slice-write-fields-8

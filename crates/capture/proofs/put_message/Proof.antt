@@ -11,36 +11,15 @@ use borrow.Author.Needs.{needs}
 use Rattle.capture.proofs.put_message.Statement.{statement}
 use Rattle.capture.proofs.put_message.Tie as tie
 
-put-be4-requires : tie.Need-put-be4-requires
-put-be4-requires c κs = search needs
-
-same-length : tie.Need-same-length
-same-length c = search needs
-
 returns : tie.Need-returns
 returns c =
     let a = (c .before .before .before .before .before .before .before .before .args) in
     let p = (c .before .before .before .before .before .before .before .before .pre) in
     (c .before .before .put-be4 .ensures) ∙ ap (λ (n : ℕ). putAt (a .fields .now) 12 4 (bytesBe 4 n)) (message-none (a .bytes .now) (a .header .version) (a .header .message) (p .1) (c .before .before .before .before .if1 .taken))
 
-sub-be4 : tie.Need-sub-be4
-sub-be4 c = search needs
-
-part-be4-start : tie.Need-part-be4-start
-part-be4-start c = search needs
-
 part-be4-end : tie.Need-part-be4-end
 unfolding headerSize
 part-be4-end c = rw (ne-eqb _ _ (c .before .if1 .left)) at (c .before .before .before .before .before .pre .0)
-
-be4-requires : tie.Need-be4-requires
-be4-requires c κs = search needs
-
-put-be4-requires-2 : tie.Need-put-be4-requires-2
-put-be4-requires-2 c κs = search needs
-
-same-length-2 : tie.Need-same-length-2
-same-length-2 c = search needs
 
 returns-2 : tie.Need-returns-2
 returns-2 c =
@@ -52,13 +31,9 @@ pub put-message-spec : {M : Type 1} → statement M
 put-message-spec =
     tie.close
     (tie.spec
-    put-be4-requires
-    same-length
+    (λ c κs. search needs) (λ c. search needs)  -- put-be4-requires, same-length
     returns
-    sub-be4
-    part-be4-start
+    (λ c. search needs) (λ c. search needs)  -- sub-be4, part-be4-start
     part-be4-end
-    be4-requires
-    put-be4-requires-2
-    same-length-2
+    (λ c κs. search needs) (λ c κs. search needs) (λ c. search needs)  -- be4-requires, put-be4-requires-2, same-length-2
     returns-2)

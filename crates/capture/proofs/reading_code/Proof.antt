@@ -7,27 +7,15 @@ use borrow.Author.Needs.{needs}
 use Rattle.capture.proofs.reading_code.Statement.{statement}
 use Rattle.capture.proofs.reading_code.Tie as tie
 
-enum-known-reading : tie.Need-enum-known-reading
-enum-known-reading c = search needs
-
 code-of-requires : tie.Need-code-of-requires
 code-of-requires c κs =
     let f = subst ReadingFits (c .before .reading .given .1) (c .before .before .before .pre) in
     (omega arith, f .0)
 
-enum-known-reading-2 : tie.Need-enum-known-reading-2
-enum-known-reading-2 c = search needs
-
-cast-code-of : tie.Need-cast-code-of
-cast-code-of c = search needs
-
 code-of-requires-2 : tie.Need-code-of-requires-2
 code-of-requires-2 c κs =
     let f = subst ReadingFits (c .before .reading2 .given .1) (c .before .before .before .pre) in
     (omega arith, f)
-
-enum-known-reading-3 : tie.Need-enum-known-reading-3
-enum-known-reading-3 c = search needs
 
 code-of-requires-3 : tie.Need-code-of-requires-3
 code-of-requires-3 c κs =
@@ -47,12 +35,11 @@ pub reading-code-spec : {M : Type 1} → statement M
 reading-code-spec =
     tie.close
     (tie.spec
-    enum-known-reading
+    (λ c. search needs)  -- enum-known-reading
     code-of-requires
-    enum-known-reading-2
-    cast-code-of
+    (λ c. search needs) (λ c. search needs)  -- enum-known-reading-2, cast-code-of
     code-of-requires-2
-    enum-known-reading-3
+    (λ c. search needs)  -- enum-known-reading-3
     code-of-requires-3
     returns
     returns-2

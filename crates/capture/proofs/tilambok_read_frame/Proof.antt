@@ -37,12 +37,6 @@ few-fields fields h e l = rw (lt-leb 16 (length fields) l)
 all-fields : (fields : List ℕ) (h : Header) (e : Extent) → 16 ≤ length fields → left (readingCode (Frame h e)) (laid (fieldBytes h (e .start)) fields) ≡ leftBy fields (heard fields (Frame h e))
 all-fields fields h e l = rw (le-leb 16 (length fields) l)
 
-read-requires : tie.Need-read-requires
-read-requires c κs = search needs
-
-enum-known-reading : tie.Need-enum-known-reading
-enum-known-reading c = search needs
-
 reading-code-requires : tie.Need-reading-code-requires
 reading-code-requires c κs = subst ReadingFits (sym (c .before .read .ensures)) (reading-fits (c .before .before .before .before .args .bytes .now))
 
@@ -50,9 +44,6 @@ returns : tie.Need-returns
 returns c =
     let a = (c .before .before .before .before .before .args) in
     rw ((c .reading-code .ensures), ← (c .before .before .read .ensures)) (no-frame (a .fields .now) (c .before .before .read .result) (c .before .match .keys2))
-
-reading-code-requires-2 : tie.Need-reading-code-requires-2
-reading-code-requires-2 c κs = search needs
 
 returns-2 : tie.Need-returns-2
 returns-2 c = rw ((c .reading-code2 .ensures), sym (c .before .before .before .before .before .read .ensures) ∙ (c .before .before .before .reading .given .1)) (few-fields _ _ _ (omega arith))
@@ -68,9 +59,6 @@ put-fields-requires c κs =
 reading-code-requires-3 : tie.Need-reading-code-requires-3
 reading-code-requires-3 c κs = subst ReadingFits (sym (c .before .before .before .before .before .before .before .before .before .read .ensures) ∙ (c .before .before .before .before .before .before .before .reading .given .1)) (reading-fits (c .before .before .before .before .before .before .before .before .before .before .before .before .args .bytes .now))
 
-same-length : tie.Need-same-length
-same-length c = search needs
-
 returns-3 : tie.Need-returns-3
 returns-3 c = rw ((c .reading-code3 .ensures), sym (c .before .before .before .before .before .before .before .before .before .before .read .ensures) ∙ (c .before .before .before .before .before .before .before .before .reading .given .1), (c .before .before .before .put-fields .ensures)) (all-fields _ _ _ (omega arith))
 
@@ -78,14 +66,13 @@ pub tilambok-read-frame-spec : {M : Type 1} → statement M
 tilambok-read-frame-spec =
     tie.close
     (tie.spec
-    read-requires
-    enum-known-reading
+    (λ c κs. search needs) (λ c. search needs)  -- read-requires, enum-known-reading
     reading-code-requires
     returns
-    reading-code-requires-2
+    (λ c κs. search needs)  -- reading-code-requires-2
     returns-2
     cast-put-fields
     put-fields-requires
     reading-code-requires-3
-    same-length
+    (λ c. search needs)  -- same-length
     returns-3)

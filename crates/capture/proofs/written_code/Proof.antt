@@ -7,19 +7,10 @@ use borrow.Author.Needs.{needs}
 use Rattle.capture.proofs.written_code.Statement.{statement}
 use Rattle.capture.proofs.written_code.Tie as tie
 
-enum-known-written : tie.Need-enum-known-written
-enum-known-written c = search needs
-
 code-of-requires : tie.Need-code-of-requires
 code-of-requires c κs =
     let f = subst WrittenFits (c .before .written .given .1) (c .before .before .before .pre) in
     (omega arith, f)
-
-enum-known-written-2 : tie.Need-enum-known-written-2
-enum-known-written-2 c = search needs
-
-cast-code-of : tie.Need-cast-code-of
-cast-code-of c = search needs
 
 code-of-requires-2 : tie.Need-code-of-requires-2
 code-of-requires-2 c κs =
@@ -36,10 +27,9 @@ pub written-code-spec : {M : Type 1} → statement M
 written-code-spec =
     tie.close
     (tie.spec
-    enum-known-written
+    (λ c. search needs)  -- enum-known-written
     code-of-requires
-    enum-known-written-2
-    cast-code-of
+    (λ c. search needs) (λ c. search needs)  -- enum-known-written-2, cast-code-of
     code-of-requires-2
     returns
     returns-2)

@@ -8,9 +8,6 @@ use borrow.Author.Needs.{needs}
 use Rattle.frame.proofs.fault.Statement.{statement}
 use Rattle.frame.proofs.fault.Tie as tie
 
-known-version-requires : tie.Need-known-version-requires
-known-version-requires c κs = search needs
-
 returns : tie.Need-returns
 unfolding faultOf
 returns c = rw ((sym (c .before .known-version .ensures) ∙ not-true (c .before .known-version .result) (c .if1 .taken)))
@@ -19,29 +16,17 @@ returns-2 : tie.Need-returns-2
 unfolding faultOf
 returns-2 c = rw ((sym (c .before .before .before .known-version .ensures) ∙ not-false (c .before .before .before .known-version .result) (c .before .before .if1 .left)), lt-leb (c .before .before .before .before .args .header .kind) 3 (omega arith))
 
-listed-service-requires : tie.Need-listed-service-requires
-listed-service-requires c κs = search needs
-
 returns-3 : tie.Need-returns-3
 unfolding faultOf
 returns-3 c = rw ((sym (c .before .before .before .before .before .known-version .ensures) ∙ not-false (c .before .before .before .before .before .known-version .result) (c .before .before .before .before .if1 .left)), le-leb (c .before .before .before .before .before .before .args .header .kind) 3 (omega arith), (sym (c .before .listed-service .ensures) ∙ not-true (c .before .listed-service .result) (c .if3 .taken)))
-
-info-fits-requires : tie.Need-info-fits-requires
-info-fits-requires c κs = search needs
 
 returns-4 : tie.Need-returns-4
 unfolding faultOf
 returns-4 c = rw ((sym (c .before .before .before .before .before .before .before .known-version .ensures) ∙ not-false (c .before .before .before .before .before .before .before .known-version .result) (c .before .before .before .before .before .before .if1 .left)), le-leb (c .before .before .before .before .before .before .before .before .args .header .kind) 3 (omega arith), (sym (c .before .before .before .listed-service .ensures) ∙ not-false (c .before .before .before .listed-service .result) (c .before .before .if3 .left)), (sym (c .before .info-fits .ensures) ∙ not-true (c .before .info-fits .result) (c .if4 .taken)))
 
-flag-fits-requires : tie.Need-flag-fits-requires
-flag-fits-requires c κs = search needs
-
 returns-5 : tie.Need-returns-5
 unfolding faultOf
 returns-5 c = rw ((sym (c .before .before .before .before .before .before .before .before .before .known-version .ensures) ∙ not-false (c .before .before .before .before .before .before .before .before .before .known-version .result) (c .before .before .before .before .before .before .before .before .if1 .left)), le-leb (c .before .before .before .before .before .before .before .before .before .before .args .header .kind) 3 (omega arith), (sym (c .before .before .before .before .before .listed-service .ensures) ∙ not-false (c .before .before .before .before .before .listed-service .result) (c .before .before .before .before .if3 .left)), (sym (c .before .before .before .info-fits .ensures) ∙ not-false (c .before .before .before .info-fits .result) (c .before .before .if4 .left)), (sym (c .before .flag-fits .ensures) ∙ not-true (c .before .flag-fits .result) (c .if5 .taken)))
-
-size-fits-requires : tie.Need-size-fits-requires
-size-fits-requires c κs = search needs
 
 returns-6 : tie.Need-returns-6
 unfolding faultOf
@@ -55,15 +40,15 @@ pub fault-spec : {M : Type 1} → statement M
 fault-spec =
     tie.close
     (tie.spec
-    known-version-requires
+    (λ c κs. search needs)  -- known-version-requires
     returns
     returns-2
-    listed-service-requires
+    (λ c κs. search needs)  -- listed-service-requires
     returns-3
-    info-fits-requires
+    (λ c κs. search needs)  -- info-fits-requires
     returns-4
-    flag-fits-requires
+    (λ c κs. search needs)  -- flag-fits-requires
     returns-5
-    size-fits-requires
+    (λ c κs. search needs)  -- size-fits-requires
     returns-6
     returns-7)

@@ -5,21 +5,6 @@ use borrow.Author.Needs.{needs}
 use Rattle.frame.proofs.front.Statement.{statement}
 use Rattle.frame.proofs.front.Tie as tie
 
-shared-slice-read-first : tie.Need-shared-slice-read-first
-shared-slice-read-first c = search needs
-
-shared-slice-read-t9 : tie.Need-shared-slice-read-t9
-shared-slice-read-t9 c = search needs
-
-shared-slice-read-t12 : tie.Need-shared-slice-read-t12
-shared-slice-read-t12 c = search needs
-
-shared-slice-read-t14 : tie.Need-shared-slice-read-t14
-shared-slice-read-t14 c = search needs
-
-be4-requires : tie.Need-be4-requires
-be4-requires c κs = search needs
-
 returns : tie.Need-returns
 unfolding frontOf
 returns c = rw (← (c .be4 .ensures))
@@ -28,9 +13,6 @@ pub front-spec : {M : Type 1} → statement M
 front-spec =
     tie.close
     (tie.spec
-    shared-slice-read-first
-    shared-slice-read-t9
-    shared-slice-read-t12
-    shared-slice-read-t14
-    be4-requires
+    (λ c. search needs) (λ c. search needs) (λ c. search needs) (λ c. search needs)  -- shared-slice-read-first, shared-slice-read-t9, shared-slice-read-t12, shared-slice-read-t14
+    (λ c κs. search needs)  -- be4-requires
     returns)

@@ -15,18 +15,9 @@ returns : tie.Need-returns
 unfolding messageOf
 returns c = rw (eq-eqb _ _ (c .if1 .taken))
 
-sub-be4 : tie.Need-sub-be4
-sub-be4 c = search needs
-
-part-be4-start : tie.Need-part-be4-start
-part-be4-start c = search needs
-
 part-be4-end : tie.Need-part-be4-end
 unfolding headerSize
 part-be4-end c = rw (ne-eqb _ _ (c .if1 .left)) at (c .before .before .pre)
-
-be4-requires : tie.Need-be4-requires
-be4-requires c κs = search needs
 
 returns-2 : tie.Need-returns-2
 unfolding messageOf
@@ -35,4 +26,11 @@ returns-2 c =
     rw (ne-eqb _ _ (c .before .before .if1 .left), ← all, ← (c .be4 .ensures))
 
 pub message-id-spec : {M : Type 1} → statement M
-message-id-spec = tie.close (tie.spec returns sub-be4 part-be4-start part-be4-end be4-requires returns-2)
+message-id-spec =
+    tie.close
+    (tie.spec
+    returns
+    (λ c. search needs) (λ c. search needs)  -- sub-be4, part-be4-start
+    part-be4-end
+    (λ c κs. search needs)  -- be4-requires
+    returns-2)

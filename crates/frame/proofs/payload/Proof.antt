@@ -5,21 +5,6 @@ use borrow.Author.Needs.{needs}
 use Rattle.frame.proofs.payload.Statement.{statement}
 use Rattle.frame.proofs.payload.Tie as tie
 
-least-requires : tie.Need-least-requires
-least-requires c κs = search needs
-
-least-requires-2 : tie.Need-least-requires-2
-least-requires-2 c κs = search needs
-
-sub-result : tie.Need-sub-result
-sub-result c = search needs
-
-part-result-start : tie.Need-part-result-start
-part-result-start c = search needs
-
-part-result-end : tie.Need-part-result-end
-part-result-end c = search needs
-
 returns : tie.Need-returns
 returns c =
     let a = (c .before .before .before .before .args) in
@@ -28,4 +13,7 @@ returns c =
 pub payload-spec : {M : Type 1} → statement M
 payload-spec =
     tie.close
-    (tie.spec least-requires least-requires-2 sub-result part-result-start part-result-end returns)
+    (tie.spec
+    (λ c κs. search needs) (λ c κs. search needs) (λ c. search needs) (λ c. search needs)  -- least-requires, least-requires-2, sub-result, part-result-start
+    (λ c. search needs)  -- part-result-end
+    returns)

@@ -22,9 +22,6 @@ mul-out c =
     let r = version-range (h .version) (s .version) in
     record { fits = omega arith }
 
-flag-bit-requires : tie.Need-flag-bit-requires
-flag-bit-requires c κs = search needs
-
 add-out : tie.Need-add-out
 add-out c =
     let h = (c .before .before .before .args .header) in
@@ -51,9 +48,6 @@ slice-write-out-3 c = simp length-set (omega (arith, header-range (c .before .be
 slice-write-out-4 : tie.Need-slice-write-out-4
 slice-write-out-4 c = simp length-set (omega (arith, header-range (c .before .before .before .before .args .header .version), (c .before .before .before .before .pre .1)))
 
-put-be4-requires : tie.Need-put-be4-requires
-put-be4-requires c κs = search needs
-
 same-length : tie.Need-same-length
 same-length c = (c .before .before .before .before .put-be4 .kept .0) ∙ simp length-set
 
@@ -64,9 +58,6 @@ returns c =
     let l : 8 ≤ length o = omega (arith, header-range (h .version), (c .before .before .before .before .before .before .before .before .before .before .pre .1)) in
     header-one h (c .before .before .before .before .before .before .before .flag-bit .result) o _ (c .before .before .before .before .before .before .before .flag-bit .ensures) (omega (arith, version-range (h .version) (fault-none h (c .before .before .before .before .before .before .before .before .before .before .pre .0) .version)))
     (front-put (h .version * 16 + (c .before .before .before .before .before .before .before .flag-bit .result) + h .kind) (h .service .0) (h .info) (h .session .0) (h .size) o _ l (c .before .before .before .before .put-be4 .ensures))
-
-put-be4-requires-2 : tie.Need-put-be4-requires-2
-put-be4-requires-2 c κs = search needs
 
 same-length-2 : tie.Need-same-length-2
 same-length-2 c = (c .before .before .put-be42 .kept .0) ∙ (c .before .before .before .before .before .before .before .before .put-be4 .kept .0) ∙ simp length-set
@@ -88,16 +79,16 @@ put-header-spec =
     tie.close
     (tie.spec
     mul-out
-    flag-bit-requires
+    (λ c κs. search needs)  -- flag-bit-requires
     add-out
     add-out-2
     slice-write-out
     slice-write-out-2
     slice-write-out-3
     slice-write-out-4
-    put-be4-requires
+    (λ c κs. search needs)  -- put-be4-requires
     same-length
     returns
-    put-be4-requires-2
+    (λ c κs. search needs)  -- put-be4-requires-2
     same-length-2
     returns-2)

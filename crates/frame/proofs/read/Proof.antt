@@ -12,21 +12,9 @@ returns : tie.Need-returns
 unfolding readOf
 returns c = rw (lt-leb _ _ (c .if1 .taken))
 
-front-requires : tie.Need-front-requires
-front-requires c κs = search needs
-
-fault-requires : tie.Need-fault-requires
-fault-requires c κs = search needs
-
 returns-2 : tie.Need-returns-2
 unfolding readOf
 returns-2 c = rw (le-leb _ _ (c .before .before .before .if1 .left), ← (c .before .before .front .ensures), ← (c .before .fault .ensures), ne-eqb (c .before .fault .result) 0 (λ e. omega arith))
-
-header-size-requires : tie.Need-header-size-requires
-header-size-requires c κs = search needs
-
-cast-end : tie.Need-cast-end
-cast-end c = search needs
 
 add-end : tie.Need-add-end
 add-end c = omega (arith, (c .before .header-size .ensures), header-range (c .before .before .before .before .front .result .version))
@@ -47,11 +35,9 @@ read-spec =
     tie.close
     (tie.spec
     returns
-    front-requires
-    fault-requires
+    (λ c κs. search needs) (λ c κs. search needs)  -- front-requires, fault-requires
     returns-2
-    header-size-requires
-    cast-end
+    (λ c κs. search needs) (λ c. search needs)  -- header-size-requires, cast-end
     add-end
     returns-3
     message-id-requires

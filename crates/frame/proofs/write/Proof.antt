@@ -13,24 +13,15 @@ use borrow.Author.Needs.{needs}
 use Rattle.frame.proofs.write.Statement.{statement}
 use Rattle.frame.proofs.write.Tie as tie
 
-fault-requires : tie.Need-fault-requires
-fault-requires c κs = search needs
-
 returns : tie.Need-returns
 unfolding writeOf
 returns c = rw (← (c .before .fault .ensures), ne-eqb _ _ (c .if1 .taken))
-
-cast-if2 : tie.Need-cast-if2
-cast-if2 c = search needs
 
 returns-2 : tie.Need-returns-2
 unfolding writeOf
 returns-2 c =
     let a = (c .before .before .before .before .before .before .args) in
     rw (← (c .before .before .before .fault .ensures), eq-eqb _ _ (c .before .before .if1 .left), ne-eqb (a .header .size) (length (a .payload .now)) (λ e. omega arith))
-
-header-size-requires : tie.Need-header-size-requires
-header-size-requires c κs = search needs
 
 add-end : tie.Need-add-end
 add-end c = omega (arith, (c .header-size .ensures), header-range (c .before .before .before .before .before .before .before .args .header .version))
@@ -44,21 +35,6 @@ returns-3 c =
 put-header-requires : tie.Need-put-header-requires
 put-header-requires c κs = (sym (c .before .before .before .before .before .before .fault .ensures) ∙ (c .before .before .before .before .before .if1 .left), rw (← (c .before .before .header-size .ensures)) (omega arith))
 
-sub-copy : tie.Need-sub-copy
-sub-copy c = search needs
-
-part-copy-start : tie.Need-part-copy-start
-part-copy-start c = search needs
-
-part-copy-end : tie.Need-part-copy-end
-part-copy-end c = search needs
-
-copy-requires : tie.Need-copy-requires
-copy-requires c κs = search needs
-
-same-length : tie.Need-same-length
-same-length c = search needs
-
 returns-4 : tie.Need-returns-4
 unfolding writeOf
 returns-4 c =
@@ -71,17 +47,14 @@ pub write-spec : {M : Type 1} → statement M
 write-spec =
     tie.close
     (tie.spec
-    fault-requires
+    (λ c κs. search needs)  -- fault-requires
     returns
-    cast-if2
+    (λ c. search needs)  -- cast-if2
     returns-2
-    header-size-requires
+    (λ c κs. search needs)  -- header-size-requires
     add-end
     returns-3
     put-header-requires
-    sub-copy
-    part-copy-start
-    part-copy-end
-    copy-requires
-    same-length
+    (λ c. search needs) (λ c. search needs) (λ c. search needs) (λ c κs. search needs)  -- sub-copy, part-copy-start, part-copy-end, copy-requires
+    (λ c. search needs)  -- same-length
     returns-4)

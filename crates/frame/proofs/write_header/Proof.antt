@@ -11,15 +11,9 @@ use borrow.Author.Needs.{needs}
 use Rattle.frame.proofs.write_header.Statement.{statement}
 use Rattle.frame.proofs.write_header.Tie as tie
 
-fault-requires : tie.Need-fault-requires
-fault-requires c κs = search needs
-
 returns : tie.Need-returns
 unfolding writeHeaderOf
 returns c = rw (← (c .before .fault .ensures), ne-eqb _ _ (c .if1 .taken))
-
-header-size-requires : tie.Need-header-size-requires
-header-size-requires c κs = search needs
 
 returns-2 : tie.Need-returns-2
 unfolding writeHeaderOf
@@ -27,9 +21,6 @@ returns-2 c = rw (← (c .before .before .before .fault .ensures), eq-eqb _ _ (c
 
 put-header-requires : tie.Need-put-header-requires
 put-header-requires c κs = (sym (c .before .before .before .before .fault .ensures) ∙ (c .before .before .before .if1 .left), omega (arith, (c .before .before .header-size .ensures)))
-
-same-length : tie.Need-same-length
-same-length c = search needs
 
 returns-3 : tie.Need-returns-3
 unfolding writeHeaderOf
@@ -41,10 +32,10 @@ pub write-header-spec : {M : Type 1} → statement M
 write-header-spec =
     tie.close
     (tie.spec
-    fault-requires
+    (λ c κs. search needs)  -- fault-requires
     returns
-    header-size-requires
+    (λ c κs. search needs)  -- header-size-requires
     returns-2
     put-header-requires
-    same-length
+    (λ c. search needs)  -- same-length
     returns-3)

@@ -8,24 +8,9 @@ use borrow.Author.Needs.{needs}
 use Rattle.headunit.proofs.call.Statement.{statement}
 use Rattle.headunit.proofs.call.Tie as tie
 
-survey-requires : tie.Need-survey-requires
-survey-requires c κs = search needs
-
 returns : tie.Need-returns
 unfolding callOf
 returns c = rw (sym (c .before .before .survey .ensures .0) ∙ not-true ((c .before .before .survey .result) .fit) (c .if1 .taken))
-
-read-requires : tie.Need-read-requires
-read-requires c κs = search needs
-
-enum-known-needed : tie.Need-enum-known-needed
-enum-known-needed c = search needs
-
-enum-known-number : tie.Need-enum-known-number
-enum-known-number c = search needs
-
-enum-known-header : tie.Need-enum-known-header
-enum-known-header c = search needs
 
 take-requires : tie.Need-take-requires
 take-requires c κs = let fit = not-false ((c .before .before .before .before .before .before .before .before .survey .result) .fit) (c .before .before .before .before .before .before .if1 .left) in
@@ -39,12 +24,6 @@ returns-3 : tie.Need-returns-3
 unfolding callOf
 returns-3 c = rw (sym (c .before .before .before .before .before .before .survey .ensures .0) ∙ not-false ((c .before .before .before .before .before .before .survey .result) .fit) (c .before .before .before .before .if1 .left), ← (c .before .before .before .read .ensures), (c .before .number .given .1))
 
-same-length : tie.Need-same-length
-same-length c = search needs
-
-same-length-2 : tie.Need-same-length-2
-same-length-2 c = search needs
-
 returns-4 : tie.Need-returns-4
 unfolding callOf
 returns-4 c = (c .before .before .before .before .take .ensures) ∙ rw (sym (c .before .before .before .before .before .before .before .before .before .before .before .before .before .survey .ensures .0) ∙ not-false ((c .before .before .before .before .before .before .before .before .before .before .before .before .before .survey .result) .fit) (c .before .before .before .before .before .before .before .before .before .before .before .if1 .left), ← (c .before .before .before .before .before .before .before .before .before .before .read .ensures), (c .before .before .before .before .before .before .before .before .header .given .1))
@@ -53,15 +32,11 @@ pub call-spec : {M : Type 1} → statement M
 call-spec =
     tie.close
     (tie.spec
-    survey-requires
+    (λ c κs. search needs)  -- survey-requires
     returns
-    read-requires
-    enum-known-needed
-    enum-known-number
-    enum-known-header
+    (λ c κs. search needs) (λ c. search needs) (λ c. search needs) (λ c. search needs)  -- read-requires, enum-known-needed, enum-known-number, enum-known-header
     take-requires
     returns-2
     returns-3
-    same-length
-    same-length-2
+    (λ c. search needs) (λ c. search needs)  -- same-length, same-length-2
     returns-4)

@@ -13,17 +13,8 @@ use Rattle.rules.proofs.settings_fit.Reads as settings-fit-reads
 use Rattle.session.proofs.Row.free.Reads as free-reads
 
 -- src/lib.rt:332:17
-free-requires : tie.Need-free-requires
-free-requires c κs = search needs
-
 -- src/lib.rt:333:9
-free-map-requires : tie.Need-free-map-requires
-free-map-requires c κs = search needs
-
 -- src/lib.rt:335:9
-settings-fit-requires : tie.Need-settings-fit-requires
-settings-fit-requires c κs = search needs
-
 -- src/lib.rt:336:9
 returns : tie.Need-returns
 unfolding creationOf
@@ -36,4 +27,8 @@ returns-2 c = rw (sym (c .before .settings-fit .ensures) ∙ not-false (c .befor
 
 pub create-spec : {M : Type 1} → statement M
 create-spec =
-    tie.close (tie.spec free-requires free-map-requires settings-fit-requires returns returns-2)
+    tie.close
+    (tie.spec
+    (λ c κs. search needs) (λ c κs. search needs) (λ c κs. search needs)  -- free-requires, free-map-requires, settings-fit-requires
+    returns
+    returns-2)

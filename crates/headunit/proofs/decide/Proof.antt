@@ -6,31 +6,13 @@ use borrow.Author.Needs.{needs}
 use Rattle.headunit.proofs.decide.Statement.{statement}
 use Rattle.headunit.proofs.decide.Tie as tie
 
-barred-by-requires : tie.Need-barred-by-requires
-barred-by-requires c κs = search needs
-
 returns : tie.Need-returns
 unfolding decisionBy
 returns c = rw (← (c .before .barred-by .ensures), ne-eqb _ _ (c .if1 .taken))
 
-said-requires : tie.Need-said-requires
-said-requires c κs = search needs
-
-control-requires : tie.Need-control-requires
-control-requires c κs = search needs
-
 returns-2 : tie.Need-returns-2
 unfolding decisionBy
 returns-2 c = rw (← (c .before .before .before .before .before .barred-by .ensures), eq-eqb _ _ (c .before .before .before .before .if1 .left), eq-eqb _ _ (c .before .before .if2 .taken), (c .control .ensures), (c .before .said .ensures))
-
-be4-requires : tie.Need-be4-requires
-be4-requires c κs = search needs
-
-be4-requires-2 : tie.Need-be4-requires-2
-be4-requires-2 c κs = search needs
-
-content-requires : tie.Need-content-requires
-content-requires c κs = search needs
 
 returns-3 : tie.Need-returns-3
 unfolding decisionBy
@@ -40,12 +22,9 @@ pub decide-spec : {M : Type 1} → statement M
 decide-spec =
     tie.close
     (tie.spec
-    barred-by-requires
+    (λ c κs. search needs)  -- barred-by-requires
     returns
-    said-requires
-    control-requires
+    (λ c κs. search needs) (λ c κs. search needs)  -- said-requires, control-requires
     returns-2
-    be4-requires
-    be4-requires-2
-    content-requires
+    (λ c κs. search needs) (λ c κs. search needs) (λ c κs. search needs)  -- be4-requires, be4-requires-2, content-requires
     returns-3)

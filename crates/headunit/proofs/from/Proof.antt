@@ -6,12 +6,13 @@ use borrow.Author.Needs.{needs}
 use Rattle.headunit.proofs.from.Statement.{statement}
 use Rattle.headunit.proofs.from.Tie as tie
 
-reply-version-requires : tie.Need-reply-version-requires
-reply-version-requires c κs = search needs
-
 returns : tie.Need-returns
 returns c = let a = (c .before .before .args) in
     ap (λ (v : ℕ). record { version = v; service = a .service; session = a .row .id }) (c .reply-version .ensures)
 
 pub from-spec : {M : Type 1} → statement M
-from-spec = tie.close (tie.spec reply-version-requires returns)
+from-spec =
+    tie.close
+    (tie.spec
+    (λ c κs. search needs)  -- reply-version-requires
+    returns)

@@ -13,15 +13,6 @@ use borrow.Author.Needs.{needs}
 use Rattle.headunit.proofs.is_admitted.Statement.{statement}
 use Rattle.headunit.proofs.is_admitted.Tie as tie
 
-index-of-requires : tie.Need-index-of-requires
-index-of-requires c κs = search needs
-
-cast-sum : tie.Need-cast-sum
-cast-sum c = search needs
-
-add-sum : tie.Need-add-sum
-add-sum c = search needs
-
 returns : tie.Need-returns
 unfolding admits
 returns c = λ l s.
@@ -29,4 +20,8 @@ returns c = λ l s.
     (rw (← at, ← s .shares, s .eight), λ e. omega (arith, ltb-true (c .before .before .index-of .result) 8 (and-both (ltb (c .before .before .index-of .result) 8) _ e .0), at))
 
 pub is-admitted-spec : {M : Type 1} → statement M
-is-admitted-spec = tie.close (tie.spec index-of-requires cast-sum add-sum returns)
+is-admitted-spec =
+    tie.close
+    (tie.spec
+    (λ c κs. search needs) (λ c. search needs) (λ c. search needs)  -- index-of-requires, cast-sum, add-sum
+    returns)

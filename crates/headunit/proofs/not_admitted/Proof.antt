@@ -16,17 +16,11 @@ use Rattle.headunit.proofs.not_admitted.Lts as lts
 use Rattle.headunit.proofs.replies.put_empty.Reads as put-empty-reads
 
 -- src/lib.rt:414:32
-least-byte-requires : tie.Need-least-byte-requires
-least-byte-requires c κs = search needs
-
 -- src/lib.rt:415:9
 put-empty-requires : tie.Need-put-empty-requires
 put-empty-requires c κs = ((c .before .before .before .pre .0), (rw (c .before .least-byte .ensures) (omega (arith, (c .before .before .before .pre .1))), (rw (c .before .least-byte .ensures) (omega arith), (rpc-listed, reply-infos .1))))
 
 -- src/lib.rt:410:1
-same-length : tie.Need-same-length
-same-length c = search needs
-
 -- src/lib.rt:410:1
 returns : tie.Need-returns
 returns c =
@@ -34,4 +28,10 @@ returns c =
     λ p g. ap (repliedWith answer.Nacked (a .consumed) (a .link) p) ((c .before .before .put-empty .ensures) ∙ ap (λ (v : ℕ). sentOf (replyBytes v rpc 0x03 0 0 []) (a .out .now)) (c .before .before .before .before .least-byte .ensures))
 
 pub not-admitted-spec : {M : Type 1} → statement M
-not-admitted-spec = tie.close (tie.spec least-byte-requires put-empty-requires same-length returns)
+not-admitted-spec =
+    tie.close
+    (tie.spec
+    (λ c κs. search needs)  -- least-byte-requires
+    put-empty-requires
+    (λ c. search needs)  -- same-length
+    returns)

@@ -17,17 +17,11 @@ use Rattle.headunit.proofs.not_readable.Lts as lts
 use Rattle.headunit.proofs.replies.put_nak.Reads as put-nak-reads
 
 -- src/lib.rt:405:32
-least-byte-requires : tie.Need-least-byte-requires
-least-byte-requires c κs = search needs
-
 -- src/lib.rt:406:9
 put-nak-requires : tie.Need-put-nak-requires
 put-nak-requires c κs = ((c .before .before .before .pre .0), (rw (c .before .least-byte .ensures) (omega (arith, (c .before .before .before .pre .1))), (rw (c .before .least-byte .ensures) (omega arith), (rpc-listed, reply-infos .1))))
 
 -- src/lib.rt:401:1
-same-length : tie.Need-same-length
-same-length c = search needs
-
 -- src/lib.rt:401:1
 returns : tie.Need-returns
 returns c =
@@ -35,4 +29,10 @@ returns c =
     λ p g. ap (repliedWith answer.Nacked (a .consumed) (a .link) p) ((c .before .before .put-nak .ensures) ∙ ap (λ (v : ℕ). sentOf (replyBytes v rpc 0x03 0 0 (nakPayload protocolVersion)) (a .out .now)) (c .before .before .before .before .least-byte .ensures))
 
 pub not-readable-spec : {M : Type 1} → statement M
-not-readable-spec = tie.close (tie.spec least-byte-requires put-nak-requires same-length returns)
+not-readable-spec =
+    tie.close
+    (tie.spec
+    (λ c κs. search needs)  -- least-byte-requires
+    put-nak-requires
+    (λ c. search needs)  -- same-length
+    returns)

@@ -16,18 +16,9 @@ is-admitted-requires c κs = (c .before .pre .1 .1) .bound
 not-admitted-requires : tie.Need-not-admitted-requires
 not-admitted-requires c κs = ((c .before .before .before .before .pre .0), (c .before .before .before .before .pre .1 .0))
 
-same-length : tie.Need-same-length
-same-length c = search needs
-
 returns : tie.Need-returns
 returns c = let a = (c .before .before .before .before .before .before .before .args) in
     λ p. (c .before .before .not-admitted .ensures) p (a .grant) ∙ rw (sym ((c .before .before .before .before .before .is-admitted .ensures) (a .link) (c .before .before .before .before .before .before .before .pre .1 .1) .0) ∙ not-true (c .before .before .before .before .before .is-admitted .result) (c .before .before .before .before .if1 .taken))
-
-index-of-requires : tie.Need-index-of-requires
-index-of-requires c κs = search needs
-
-lowest-free-requires : tie.Need-lowest-free-requires
-lowest-free-requires c κs = search needs
 
 opened-old-requires : tie.Need-opened-old-requires
 opened-old-requires c κs = let l = (c .before .before .before .before .before .before .before .args .link) in
@@ -36,9 +27,6 @@ opened-old-requires c κs = let l = (c .before .before .before .before .before .
     let at : (c .before .before .index-of .result) ≡ indexOf 0 (l .rows) = (c .before .before .index-of .ensures .0) ∙ ap (indexIn 0) (s .names) ∙ index-ids 0 (l .rows) in
     let lowest : (c .before .lowest-free .result) .0 ≡ lowestFree 255 1 (l .rows) = (c .before .lowest-free .ensures) ∙ ap (lowestIn 255 1) (s .names) ∙ lowest-ids 255 1 (l .rows) in
     (omega (arith, found, at), (at, ((c .before .before .before .before .before .before .before .pre .0), ((c .before .before .before .before .before .before .before .pre .1 .0), lowest))))
-
-same-length-2 : tie.Need-same-length-2
-same-length-2 c = search needs
 
 returns-2 : tie.Need-returns-2
 returns-2 c = λ p. (c .before .before .opened-old .ensures) p ∙ rw (sym ((c .before .before .before .before .before .before .before .before .is-admitted .ensures) (c .before .before .before .before .before .before .before .before .before .before .args .link) (c .before .before .before .before .before .before .before .before .before .before .pre .1 .1) .0) ∙ not-false (c .before .before .before .before .before .before .before .before .is-admitted .result) (c .before .before .before .before .before .before .before .if1 .left))
@@ -49,10 +37,9 @@ open-old-spec =
     (tie.spec
     is-admitted-requires
     not-admitted-requires
-    same-length
+    (λ c. search needs)  -- same-length
     returns
-    index-of-requires
-    lowest-free-requires
+    (λ c κs. search needs) (λ c κs. search needs)  -- index-of-requires, lowest-free-requires
     opened-old-requires
-    same-length-2
+    (λ c. search needs)  -- same-length-2
     returns-2)

@@ -7,20 +7,11 @@ use borrow.Author.Needs.{needs}
 use Rattle.headunit.proofs.opened_new.Statement.{statement}
 use Rattle.headunit.proofs.opened_new.Tie as tie
 
-opened-requires : tie.Need-opened-requires
-opened-requires c κs = search needs
-
-lesser-requires : tie.Need-lesser-requires
-lesser-requires c κs = search needs
-
 put-opened-requires : tie.Need-put-opened-requires
 put-opened-requires c κs = (c .before .before .before .before .before .pre .1 .1 .0)
 
 with-row-requires : tie.Need-with-row-requires
 with-row-requires c κs = (c .before .before .before .before .before .before .before .before .pre .0)
-
-same-length : tie.Need-same-length
-same-length c = search needs
 
 returns : tie.Need-returns
 returns c = let a = (c .before .before .before .before .before .before .before .before .before .args) in
@@ -31,9 +22,8 @@ pub opened-new-spec : {M : Type 1} → statement M
 opened-new-spec =
     tie.close
     (tie.spec
-    opened-requires
-    lesser-requires
+    (λ c κs. search needs) (λ c κs. search needs)  -- opened-requires, lesser-requires
     put-opened-requires
     with-row-requires
-    same-length
+    (λ c. search needs)  -- same-length
     returns)

@@ -15,23 +15,11 @@ use borrow.Author.Needs.{needs}
 use Rattle.headunit.proofs.opened_old.Statement.{statement}
 use Rattle.headunit.proofs.opened_old.Tie as tie
 
-old-version-requires : tie.Need-old-version-requires
-old-version-requires c κs = search needs
-
-opened-requires : tie.Need-opened-requires
-opened-requires c κs = search needs
-
-least-byte-requires : tie.Need-least-byte-requires
-least-byte-requires c κs = search needs
-
 put-hash-requires : tie.Need-put-hash-requires
 put-hash-requires c κs = ((c .before .before .before .before .before .pre .1 .1 .0), (rw (c .before .least-byte .ensures) (omega (arith, (c .before .before .before .before .before .pre .1 .1 .1 .0))), (rw (c .before .least-byte .ensures) (omega arith), rpc-listed)))
 
 with-row-requires : tie.Need-with-row-requires
 with-row-requires c κs = (c .before .before .before .before .before .before .before .before .pre .0)
-
-same-length : tie.Need-same-length
-same-length c = search needs
 
 returns : tie.Need-returns
 returns c = let a = (c .before .before .before .before .before .before .before .before .before .args) in
@@ -44,10 +32,8 @@ pub opened-old-spec : {M : Type 1} → statement M
 opened-old-spec =
     tie.close
     (tie.spec
-    old-version-requires
-    opened-requires
-    least-byte-requires
+    (λ c κs. search needs) (λ c κs. search needs) (λ c κs. search needs)  -- old-version-requires, opened-requires, least-byte-requires
     put-hash-requires
     with-row-requires
-    same-length
+    (λ c. search needs)  -- same-length
     returns)

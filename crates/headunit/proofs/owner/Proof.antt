@@ -9,25 +9,17 @@ use Rattle.headunit.proofs.owner.Reads as reads
 use Rattle.headunit.proofs.owner.Lts as lts
 
 -- src/lib.rt:53:17
-mul-t3 : tie.Need-mul-t3
-mul-t3 c = search needs
-
 -- src/lib.rt:53:17
-add-t4 : tie.Need-add-t4
-add-t4 c = search needs
-
 -- src/lib.rt:53:12
-add-t5 : tie.Need-add-t5
-add-t5 c = search needs
-
 -- src/lib.rt:53:11
-cast-t6 : tie.Need-cast-t6
-cast-t6 c = search needs
-
 -- src/lib.rt:49:1
 returns : tie.Need-returns
 unfolding ownerOf
 returns c = omega arith
 
 pub owner-spec : {M : Type 1} → statement M
-owner-spec = tie.close (tie.spec mul-t3 add-t4 add-t5 cast-t6 returns)
+owner-spec =
+    tie.close
+    (tie.spec
+    (λ c. search needs) (λ c. search needs) (λ c. search needs) (λ c. search needs)  -- mul-t3, add-t4, add-t5, cast-t6
+    returns)

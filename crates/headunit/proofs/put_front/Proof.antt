@@ -10,25 +10,10 @@ use Rattle.headunit.proofs.put_front.Lts as lts
 use Rattle.bytes.proofs.copy.Reads as copy-reads
 
 -- src/lib.rt:111:24
-sub-copy : tie.Need-sub-copy
-sub-copy c = search needs
-
 -- src/lib.rt:111:24
-part-copy-start : tie.Need-part-copy-start
-part-copy-start c = search needs
-
 -- src/lib.rt:111:24
-part-copy-end : tie.Need-part-copy-end
-part-copy-end c = search needs
-
 -- src/lib.rt:111:5
-copy-requires : tie.Need-copy-requires
-copy-requires c κs = search needs
-
 -- src/lib.rt:106:1
-same-length : tie.Need-same-length
-same-length c = search needs
-
 -- src/lib.rt:106:1
 returns : tie.Need-returns
 returns c =
@@ -37,4 +22,8 @@ returns c =
 
 pub put-front-spec : {M : Type 1} → statement M
 put-front-spec =
-    tie.close (tie.spec sub-copy part-copy-start part-copy-end copy-requires same-length returns)
+    tie.close
+    (tie.spec
+    (λ c. search needs) (λ c. search needs) (λ c. search needs) (λ c κs. search needs)  -- sub-copy, part-copy-start, part-copy-end, copy-requires
+    (λ c. search needs)  -- same-length
+    returns)

@@ -11,17 +11,8 @@ use Rattle.numbers.proofs.be4.Reads as be4-reads
 use Rattle.payload.proofs.read.Reads as read-reads
 
 -- src/lib.rt:93:22
-read-requires : tie.Need-read-requires
-read-requires c κs = search needs
-
 -- src/lib.rt:94:40
-enum-known-tags : tie.Need-enum-known-tags
-enum-known-tags c = search needs
-
 -- src/lib.rt:99:45
-enum-told : tie.Need-enum-told
-enum-told c = search needs
-
 -- src/lib.rt:93:9
 returns : tie.Need-returns
 unfolding saidOf
@@ -33,9 +24,6 @@ unfolding saidOf
 returns-2 c = rw (eq-eqb _ _ (c .before .before .before .if1 .taken), ← (c .before .before .read .ensures), (c .enum-told .given .1))
 
 -- src/lib.rt:102:61
-be4-requires : tie.Need-be4-requires
-be4-requires c κs = search needs
-
 -- src/lib.rt:89:1
 returns-3 : tie.Need-returns-3
 unfolding saidOf
@@ -44,4 +32,9 @@ returns-3 c = rw (ne-eqb _ _ (c .before .if1 .left), ← (c .be4 .ensures))
 pub said-spec : {M : Type 1} → statement M
 said-spec =
     tie.close
-    (tie.spec read-requires enum-known-tags enum-told returns returns-2 be4-requires returns-3)
+    (tie.spec
+    (λ c κs. search needs) (λ c. search needs) (λ c. search needs)  -- read-requires, enum-known-tags, enum-told
+    returns
+    returns-2
+    (λ c κs. search needs)  -- be4-requires
+    returns-3)

@@ -18,18 +18,9 @@ returns : tie.Need-returns
 unfolding frameOf
 returns c = rw (lt-leb 128 (length ((c .before .before .before .before .args .out) .now)) (omega (arith, (c .if1 .taken))))
 
-payload-requires : tie.Need-payload-requires
-payload-requires c κs = search needs
-
-is-opening-requires : tie.Need-is-opening-requires
-is-opening-requires c κs = search needs
-
 open-requires : tie.Need-open-requires
 open-requires c κs = let a = (c .before .before .before .before .before .before .before .before .args) in
     (omega (arith, (c .before .before .before .before .if1 .left)), (guard-major (a .link) (length (a .pool .now)) (a .grant) (c .before .before .before .before .before .before .before .before .pre .1 .0) .0, (c .before .before .before .before .before .before .before .before .pre .1 .1)))
-
-same-length : tie.Need-same-length
-same-length c = search needs
 
 returns-2 : tie.Need-returns-2
 returns-2 c = let a = (c .before .before .before .before .before .before .before .before .before .before .before .args) in
@@ -39,20 +30,11 @@ returns-3 : tie.Need-returns-3
 unfolding frameOf
 returns-3 c = rw (le-leb 128 (length ((c .before .before .before .before .before .before .before .before .before .args .out) .now)) (omega (arith, (c .before .before .before .before .before .if1 .left))), sym (c .before .before .before .is-opening .ensures) ∙ (c .before .before .if2 .left), eq-eqb _ _ (c .if3 .taken))
 
-index-of-requires : tie.Need-index-of-requires
-index-of-requires c κs = search needs
-
 within-requires : tie.Need-within-requires
 within-requires c κs = let a = (c .before .before .before .before .before .before .before .before .before .before .before .before .before .before .args) in
     let s = (c .before .before .before .before .before .before .before .before .before .before .before .before .before .before .pre .1 .1) in
     let at : (c .before .before .before .index-of .result) ≡ indexOf (a .header .session .0) (a .link .rows) = (c .before .before .before .index-of .ensures .0) ∙ ap (indexIn (a .header .session .0)) (s .names) ∙ index-ids (a .header .session .0) (a .link .rows) in
     (serves (a .link) (length (a .pool .now)) (a .grant) (c .before .before .before .index-of .result) (a .input .now) (a .header) (a .extent) (a .out .now) (c .before .before .before .before .before .before .before .before .before .before .before .before .before .before .pre .1 .0) (c .before .before .before .before .before .before .before .before .before .before .before .before .before .before .pre .0) at (s .eight) (omega (arith, (c .before .before .if4 .taken))) (c .before .before .before .before .before .if3 .left) (omega (arith, (c .before .before .before .before .before .before .before .before .before .before .if1 .left))), (ap length (c .before .before .before .before .before .before .before .before .before .payload .ensures) ∙ payload-length (a .input .now) (a .header) (a .extent) (c .before .before .before .before .before .before .before .before .before .before .before .before .before .before .pre .0), (s .shares, s .bound)))
-
-same-length-2 : tie.Need-same-length-2
-same-length-2 c = search needs
-
-same-length-3 : tie.Need-same-length-3
-same-length-3 c = search needs
 
 returns-4 : tie.Need-returns-4
 returns-4 c = let a = (c .before .before .before .before .before .before .before .before .before .before .before .before .before .before .before .before .before .before .before .args) in
@@ -72,15 +54,13 @@ take-spec =
     tie.close
     (tie.spec
     returns
-    payload-requires
-    is-opening-requires
+    (λ c κs. search needs) (λ c κs. search needs)  -- payload-requires, is-opening-requires
     open-requires
-    same-length
+    (λ c. search needs)  -- same-length
     returns-2
     returns-3
-    index-of-requires
+    (λ c κs. search needs)  -- index-of-requires
     within-requires
-    same-length-2
-    same-length-3
+    (λ c. search needs) (λ c. search needs)  -- same-length-2, same-length-3
     returns-4
     returns-5)

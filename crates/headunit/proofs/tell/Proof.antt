@@ -12,72 +12,27 @@ use borrow.Author.Needs.{needs}
 use Rattle.headunit.proofs.tell.Statement.{statement}
 use Rattle.headunit.proofs.tell.Tie as tie
 
-enum-known-act : tie.Need-enum-known-act
-enum-known-act c = search needs
-
-enum-known-act-2 : tie.Need-enum-known-act-2
-enum-known-act-2 c = search needs
-
-enum-told : tie.Need-enum-told
-enum-told c = search needs
-
-enum-told-2 : tie.Need-enum-told-2
-enum-told-2 c = search needs
-
 put-empty-requires : tie.Need-put-empty-requires
 put-empty-requires c κs = let q = (c .before .before .before .before .before .before .before .before .before .pre .0) in (q .0, (q .1 .0, (q .1 .1 .0, (q .1 .1 .1, reply-infos .4))))
-
-enum-told-3 : tie.Need-enum-told-3
-enum-told-3 c = search needs
 
 put-started-requires : tie.Need-put-started-requires
 put-started-requires c κs = (c .before .before .before .before .before .before .before .before .before .pre .0)
 
-enum-told-4 : tie.Need-enum-told-4
-enum-told-4 c = search needs
-
 put-empty-requires-2 : tie.Need-put-empty-requires-2
 put-empty-requires-2 c κs = let q = (c .before .before .before .before .before .before .before .before .before .pre .0) in (q .0, (q .1 .0, (q .1 .1 .0, (q .1 .1 .1, reply-infos .1))))
-
-enum-told-5 : tie.Need-enum-told-5
-enum-told-5 c = search needs
 
 put-empty-requires-3 : tie.Need-put-empty-requires-3
 put-empty-requires-3 c κs = let q = (c .before .before .before .before .before .before .before .before .before .pre .0) in (q .0, (q .1 .0, (q .1 .1 .0, (q .1 .1 .1, reply-infos .2))))
 
-enum-told-6 : tie.Need-enum-told-6
-enum-told-6 c = search needs
-
 put-empty-requires-4 : tie.Need-put-empty-requires-4
 put-empty-requires-4 c κs = let q = (c .before .before .before .before .before .before .before .before .before .pre .0) in (q .0, (q .1 .0, (q .1 .1 .0, (q .1 .1 .1, reply-infos .2))))
-
-enum-known-act-3 : tie.Need-enum-known-act-3
-enum-known-act-3 c = search needs
 
 put-not-ended-requires : tie.Need-put-not-ended-requires
 put-not-ended-requires c κs = (c .before .before .before .before .before .before .before .before .before .before .pre .0)
 
-enum-told-7 : tie.Need-enum-told-7
-enum-told-7 c = search needs
-
-enum-told-8 : tie.Need-enum-told-8
-enum-told-8 c = search needs
-
-feed-requires : tie.Need-feed-requires
-feed-requires c κs = search needs
-
-enum-told-9 : tie.Need-enum-told-9
-enum-told-9 c = search needs
-
 deliver-requires : tie.Need-deliver-requires
 deliver-requires c κs = let a = (c .before .before .before .before .before .before .before .before .before .before .args) in
     subst (Roomy (length (a .out .now)) (length (a .payload .now)) (a .case .message .total)) (c .before .before .enum-told9 .given .1) (c .before .before .before .before .before .before .before .before .before .before .pre .1)
-
-cast-t42 : tie.Need-cast-t42
-cast-t42 c = search needs
-
-enum-told-10 : tie.Need-enum-told-10
-enum-told-10 c = search needs
 
 put-front-requires : tie.Need-put-front-requires
 put-front-requires c κs = let a = (c .before .before .before .before .before .before .before .before .before .args) in
@@ -95,43 +50,25 @@ returns-3 : tie.Need-returns-3
 returns-3 c = let a = (c .before .before .before .before .before .before .before .before .args) in
     told-by (a .case) (a .owners .now) (a .payload .now) (a .pool .now) (a .out .now) (a .act) _ (c .enum-told .given .1) refl
 
-same-length : tie.Need-same-length
-same-length c = search needs
-
 returns-4 : tie.Need-returns-4
 returns-4 c = let a = (c .before .before .before .before .before .before .before .before .before .before .before .before .args) in
     told-by (a .case) (a .owners .now) (a .payload .now) (a .pool .now) (a .out .now) (a .act) _ (c .before .before .before .before .enum-told2 .given .1) (told-reply answer.Beat (a .case .consumed) (a .pool .now) (c .before .before .put-empty .ensures))
-
-same-length-2 : tie.Need-same-length-2
-same-length-2 c = search needs
 
 returns-5 : tie.Need-returns-5
 returns-5 c = let a = (c .before .before .before .before .before .before .before .before .before .before .before .before .args) in
     told-by (a .case) (a .owners .now) (a .payload .now) (a .pool .now) (a .out .now) (a .act) _ (c .before .before .before .before .enum-told3 .given .1) (told-reply answer.Acked (a .case .consumed) (a .pool .now) (c .before .before .put-started .ensures))
 
-same-length-3 : tie.Need-same-length-3
-same-length-3 c = search needs
-
 returns-6 : tie.Need-returns-6
 returns-6 c = let a = (c .before .before .before .before .before .before .before .before .before .before .before .before .args) in
     told-by (a .case) (a .owners .now) (a .payload .now) (a .pool .now) (a .out .now) (a .act) _ (c .before .before .before .before .enum-told4 .given .1) (told-reply answer.Nacked (a .case .consumed) (a .pool .now) (c .before .before .put-empty2 .ensures))
-
-same-length-4 : tie.Need-same-length-4
-same-length-4 c = search needs
 
 returns-7 : tie.Need-returns-7
 returns-7 c = let a = (c .before .before .before .before .before .before .before .before .before .before .before .before .args) in
     told-by (a .case) (a .owners .now) (a .payload .now) (a .pool .now) (a .out .now) (a .act) _ (c .before .before .before .before .enum-told5 .given .1) (told-reply answer.Acked (a .case .consumed) (a .pool .now) (c .before .before .put-empty3 .ensures))
 
-same-length-5 : tie.Need-same-length-5
-same-length-5 c = search needs
-
 returns-8 : tie.Need-returns-8
 returns-8 c = let a = (c .before .before .before .before .before .before .before .before .before .before .before .before .args) in
     told-by (a .case) (a .owners .now) (a .payload .now) (a .pool .now) (a .out .now) (a .act) _ (c .before .before .before .before .enum-told6 .given .1) (told-reply answer.Acked (a .case .consumed) (a .pool .now) (c .before .before .put-empty4 .ensures))
-
-same-length-6 : tie.Need-same-length-6
-same-length-6 c = search needs
 
 returns-9 : tie.Need-returns-9
 returns-9 c = let a = (c .before .before .before .before .before .before .before .before .before .before .before .before .before .args) in
@@ -141,25 +78,13 @@ returns-10 : tie.Need-returns-10
 returns-10 c = let a = (c .before .before .before .before .before .before .before .before .args) in
     told-by (a .case) (a .owners .now) (a .payload .now) (a .pool .now) (a .out .now) (a .act) _ (c .enum-told7 .given .1) refl
 
-same-length-7 : tie.Need-same-length-7
-same-length-7 c = search needs
-
 returns-11 : tie.Need-returns-11
 returns-11 c = let a = (c .before .before .before .before .before .before .before .before .before .before .before .before .args) in
     told-by (a .case) (a .owners .now) (a .payload .now) (a .pool .now) (a .out .now) (a .act) _ (c .before .before .before .before .enum-told8 .given .1) (ap (λ (p : List ℕ). told (answer.Accepted (a .case .consumed)) p (a .out .now)) (c .before .before .feed .ensures))
 
-same-length-8 : tie.Need-same-length-8
-same-length-8 c = search needs
-
-same-length-9 : tie.Need-same-length-9
-same-length-9 c = search needs
-
 returns-12 : tie.Need-returns-12
 returns-12 c = let a = (c .before .before .before .before .before .before .before .before .before .before .before .before .before .before .before .before .args) in
     told-by (a .case) (a .owners .now) (a .payload .now) (a .pool .now) (a .out .now) (a .act) _ (c .before .before .before .before .before .before .before .before .enum-told9 .given .1) (told-delivery (a .case) (a .owners .now) (a .payload .now) (a .pool .now) (a .out .now) (c .before .before .before .before .before .deliver .ensures .0) (c .before .before .before .before .before .deliver .ensures .1))
-
-same-length-10 : tie.Need-same-length-10
-same-length-10 c = search needs
 
 returns-13 : tie.Need-returns-13
 returns-13 c = let a = (c .before .before .before .before .before .before .before .before .before .before .before .before .args) in
@@ -169,49 +94,41 @@ pub tell-spec : {M : Type 1} → statement M
 tell-spec =
     tie.close
     (tie.spec
-    enum-known-act
-    enum-known-act-2
-    enum-told
-    enum-told-2
+    (λ c. search needs) (λ c. search needs) (λ c. search needs) (λ c. search needs)  -- enum-known-act, enum-known-act-2, enum-told, enum-told-2
     put-empty-requires
-    enum-told-3
+    (λ c. search needs)  -- enum-told-3
     put-started-requires
-    enum-told-4
+    (λ c. search needs)  -- enum-told-4
     put-empty-requires-2
-    enum-told-5
+    (λ c. search needs)  -- enum-told-5
     put-empty-requires-3
-    enum-told-6
+    (λ c. search needs)  -- enum-told-6
     put-empty-requires-4
-    enum-known-act-3
+    (λ c. search needs)  -- enum-known-act-3
     put-not-ended-requires
-    enum-told-7
-    enum-told-8
-    feed-requires
-    enum-told-9
+    (λ c. search needs) (λ c. search needs) (λ c κs. search needs) (λ c. search needs)  -- enum-told-7, enum-told-8, feed-requires, enum-told-9
     deliver-requires
-    cast-t42
-    enum-told-10
+    (λ c. search needs) (λ c. search needs)  -- cast-t42, enum-told-10
     put-front-requires
     returns
     returns-2
     returns-3
-    same-length
+    (λ c. search needs)  -- same-length
     returns-4
-    same-length-2
+    (λ c. search needs)  -- same-length-2
     returns-5
-    same-length-3
+    (λ c. search needs)  -- same-length-3
     returns-6
-    same-length-4
+    (λ c. search needs)  -- same-length-4
     returns-7
-    same-length-5
+    (λ c. search needs)  -- same-length-5
     returns-8
-    same-length-6
+    (λ c. search needs)  -- same-length-6
     returns-9
     returns-10
-    same-length-7
+    (λ c. search needs)  -- same-length-7
     returns-11
-    same-length-8
-    same-length-9
+    (λ c. search needs) (λ c. search needs)  -- same-length-8, same-length-9
     returns-12
-    same-length-10
+    (λ c. search needs)  -- same-length-10
     returns-13)

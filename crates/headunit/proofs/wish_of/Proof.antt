@@ -20,13 +20,7 @@ unfolding wishOf
 returns c = rw (ne-eqb _ _ (c .if1 .taken))
 
 -- src/lib.rt:394:11
-read-requires : tie.Need-read-requires
-read-requires c κs = search needs
-
 -- src/lib.rt:395:36
-enum-known-tags : tie.Need-enum-known-tags
-enum-known-tags c = search needs
-
 -- src/lib.rt:395:45
 wished-tag-requires : tie.Need-wished-tag-requires
 wished-tag-requires c κs =
@@ -34,9 +28,6 @@ wished-tag-requires c κs =
     inside (a .payload .now) _ (sym (c .before .before .before .read .ensures) ∙ (c .before .tags .given .1))
 
 -- src/lib.rt:396:41
-enum-told : tie.Need-enum-told
-enum-told c = search needs
-
 -- src/lib.rt:388:1
 returns-2 : tie.Need-returns-2
 unfolding wishOf
@@ -52,9 +43,8 @@ wish-of-spec =
     tie.close
     (tie.spec
     returns
-    read-requires
-    enum-known-tags
+    (λ c κs. search needs) (λ c. search needs)  -- read-requires, enum-known-tags
     wished-tag-requires
-    enum-told
+    (λ c. search needs)  -- enum-told
     returns-2
     returns-3)

@@ -26,13 +26,7 @@ add-end c =
     omega (arith, (c .before .before .before .before .pre) (not-false (a .tag .found) (c .before .if1 .left)))
 
 -- src/lib.rt:384:17
-sub-wished-text : tie.Need-sub-wished-text
-sub-wished-text c = search needs
-
 -- src/lib.rt:384:17
-part-wished-text-start : tie.Need-part-wished-text-start
-part-wished-text-start c = search needs
-
 -- src/lib.rt:384:17
 part-wished-text-end : tie.Need-part-wished-text-end
 part-wished-text-end c =
@@ -40,9 +34,6 @@ part-wished-text-end c =
     omega (arith, (c .before .before .before .before .pre) (not-false (a .tag .found) (c .before .if1 .left)))
 
 -- src/lib.rt:384:5
-wished-text-requires : tie.Need-wished-text-requires
-wished-text-requires c κs = search needs
-
 -- src/lib.rt:375:1
 returns-2 : tie.Need-returns-2
 returns-2 c =
@@ -56,8 +47,7 @@ wished-tag-spec =
     (tie.spec
     returns
     add-end
-    sub-wished-text
-    part-wished-text-start
+    (λ c. search needs) (λ c. search needs)  -- sub-wished-text, part-wished-text-start
     part-wished-text-end
-    wished-text-requires
+    (λ c κs. search needs)  -- wished-text-requires
     returns-2)

@@ -11,21 +11,12 @@ use Rattle.headunit.proofs.wished_text.Lts as lts
 use Rattle.payload.proofs.version.read.Reads as read-reads
 
 -- src/lib.rt:364:11
-read-requires : tie.Need-read-requires
-read-requires c κs = search needs
-
 -- src/lib.rt:365:45
-enum-known-version : tie.Need-enum-known-version
-enum-known-version c = search needs
-
 -- src/lib.rt:367:17
 returns : tie.Need-returns
 returns c = rw (← (c .before .before .before .before .before .read .ensures), (c .before .before .before .version .given .1), lt-ltb _ _ (c .if1 .taken))
 
 -- src/lib.rt:371:47
-enum-told : tie.Need-enum-told
-enum-told c = search needs
-
 -- src/lib.rt:361:1
 returns-2 : tie.Need-returns-2
 returns-2 c = rw (← (c .before .before .before .before .before .read .ensures), (c .before .before .before .version .given .1), le-ltb _ _ (c .if1 .left))
@@ -36,4 +27,10 @@ returns-3 c = rw (← (c .before .before .read .ensures), (c .enum-told .given .
 
 pub wished-text-spec : {M : Type 1} → statement M
 wished-text-spec =
-    tie.close (tie.spec read-requires enum-known-version returns enum-told returns-2 returns-3)
+    tie.close
+    (tie.spec
+    (λ c κs. search needs) (λ c. search needs)  -- read-requires, enum-known-version
+    returns
+    (λ c. search needs)  -- enum-told
+    returns-2
+    returns-3)

@@ -14,32 +14,8 @@ use borrow.Author.Needs.{needs}
 use Rattle.headunit.proofs.within.Statement.{statement}
 use Rattle.headunit.proofs.within.Tie as tie
 
-mul-row : tie.Need-mul-row
-mul-row c = search needs
-
-element-copy-out-row : tie.Need-element-copy-out-row
-element-copy-out-row c = search needs
-
 others-requires : tie.Need-others-requires
 others-requires c κs = (c .before .before .before .before .pre .1 .1 .1)
-
-decide-requires : tie.Need-decide-requires
-decide-requires c κs = search needs
-
-place-of-requires : tie.Need-place-of-requires
-place-of-requires c κs = search needs
-
-from-requires : tie.Need-from-requires
-from-requires c κs = search needs
-
-mul-t20 : tie.Need-mul-t20
-mul-t20 c = search needs
-
-element-copy-out-t29 : tie.Need-element-copy-out-t29
-element-copy-out-t29 c = search needs
-
-owner-requires : tie.Need-owner-requires
-owner-requires c κs = search needs
 
 tell-requires : tie.Need-tell-requires
 tell-requires c κs = let a = (c .before .before .before .before .before .before .before .before .before .before .before .before .before .before .before .args) in
@@ -49,9 +25,6 @@ tell-requires c κs = let a = (c .before .before .before .before .before .before
     let roomy : Roomy (length (a .out .now)) (length (a .payload .now)) (messageAt r (placeOf (a .header .service .0)) .total) (c .before .before .before .before .before .before .before .before .before .decide .result) = subst (Roomy (length (a .out .now)) (length (a .payload .now)) (messageAt r (placeOf (a .header .service .0)) .total)) (sym decided) (decision-roomy l (a .i) (a .header) (a .payload .now) (length (a .out .now)) (c .before .before .before .before .before .before .before .before .before .before .before .before .before .before .before .pre .1 .0)) in
     (((c .before .before .before .before .before .before .before .before .before .before .before .before .before .before .before .pre .0 .1 .0), (rw (c .before .before .before .before .before .before .before .from .ensures) (c .before .before .before .before .before .before .before .before .before .before .before .before .before .before .before .pre .0 .1 .1 .0), (rw (c .before .before .before .before .before .before .before .from .ensures) (c .before .before .before .before .before .before .before .before .before .before .before .before .before .before .before .pre .0 .1 .1 .1 .0), rw (c .before .before .before .before .before .before .before .from .ensures) (c .before .before .before .before .before .before .before .before .before .before .before .before .before .before .before .pre .0 .1 .1 .1 .1)))), subst (λ (n : ℕ). Roomy (length (a .out .now)) (length (a .payload .now)) (messageAt r n .total) (c .before .before .before .before .before .before .before .before .before .decide .result)) (sym (c .before .before .before .before .before .before .before .before .place-of .ensures .0)) roomy)
 
-row-after-requires : tie.Need-row-after-requires
-row-after-requires c κs = search needs
-
 mul-t20-2 : tie.Need-mul-t20-2
 mul-t20-2 c = omega (arith, (c .before .before .before .before .before .before .before .before .before .before .before .before .before .before .before .before .before .before .before .before .before .pre .0 .0))
 
@@ -60,12 +33,6 @@ element-set-from-link c = (c .before .before .before .before .before .before .be
 
 owners-after-requires : tie.Need-owners-after-requires
 owners-after-requires c κs = ((c .before .before .before .before .before .before .before .before .before .before .before .before .before .before .before .before .before .before .before .before .before .before .pre .0 .0), (c .before .before .before .before .before .before .before .before .before .before .before .before .before .before .before .place-of .ensures .1))
-
-same-length : tie.Need-same-length
-same-length c = search needs
-
-same-length-2 : tie.Need-same-length-2
-same-length-2 c = search needs
 
 returns : tie.Need-returns
 returns c = let a = (c .before .before .before .before .before .before .before .before .before .before .before .before .before .before .before .before .before .before .before .before .before .before .before .args) in
@@ -81,20 +48,14 @@ pub within-spec : {M : Type 1} → statement M
 within-spec =
     tie.close
     (tie.spec
-    mul-row
-    element-copy-out-row
+    (λ c. search needs) (λ c. search needs)  -- mul-row, element-copy-out-row
     others-requires
-    decide-requires
-    place-of-requires
-    from-requires
-    mul-t20
-    element-copy-out-t29
-    owner-requires
+    (λ c κs. search needs) (λ c κs. search needs) (λ c κs. search needs) (λ c. search needs)  -- decide-requires, place-of-requires, from-requires, mul-t20
+    (λ c. search needs) (λ c κs. search needs)  -- element-copy-out-t29, owner-requires
     tell-requires
-    row-after-requires
+    (λ c κs. search needs)  -- row-after-requires
     mul-t20-2
     element-set-from-link
     owners-after-requires
-    same-length
-    same-length-2
+    (λ c. search needs) (λ c. search needs)  -- same-length, same-length-2
     returns)

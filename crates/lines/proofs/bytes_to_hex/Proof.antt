@@ -17,15 +17,6 @@ returns c =
     let h : length (c .before .before .before .args .out .now) < 2 * length b = omega arith in
     rw (length-hex b, lt-ltb _ _ h)
 
-put-digits-requires : tie.Need-put-digits-requires
-put-digits-requires c κs = search needs
-
-mul-t4 : tie.Need-mul-t4
-mul-t4 c = search needs
-
-same-length : tie.Need-same-length
-same-length c = search needs
-
 returns-2 : tie.Need-returns-2
 unfolding writtenOf
 returns-2 c =
@@ -34,4 +25,9 @@ returns-2 c =
     rw (length-hex b, le-ltb _ _ h, c .before .before .put-digits .ensures, length-hex b)
 
 pub bytes-to-hex-spec : {M : Type 1} → statement M
-bytes-to-hex-spec = tie.close (tie.spec returns put-digits-requires mul-t4 same-length returns-2)
+bytes-to-hex-spec =
+    tie.close
+    (tie.spec
+    returns
+    (λ c κs. search needs) (λ c. search needs) (λ c. search needs)  -- put-digits-requires, mul-t4, same-length
+    returns-2)

@@ -10,12 +10,6 @@ returns : tie.Need-returns
 unfolding numberOf
 returns c = rw (eq-eqb _ _ (c .if1 .taken))
 
-is-decimal-requires : tie.Need-is-decimal-requires
-is-decimal-requires c κs = search needs
-
-value-requires : tie.Need-value-requires
-value-requires c κs = search needs
-
 returns-2 : tie.Need-returns-2
 unfolding numberOf
 returns-2 c = rw (ne-eqb _ _ (c .before .before .before .if1 .left), ← (c .before .before .is-decimal .ensures), c .before .if2 .taken, c .value .ensures)
@@ -26,4 +20,9 @@ returns-3 c = rw (ne-eqb _ _ (c .before .before .if1 .left), ← (c .before .is-
 
 pub decimal-to-number-spec : {M : Type 1} → statement M
 decimal-to-number-spec =
-    tie.close (tie.spec returns is-decimal-requires value-requires returns-2 returns-3)
+    tie.close
+    (tie.spec
+    returns
+    (λ c κs. search needs) (λ c κs. search needs)  -- is-decimal-requires, value-requires
+    returns-2
+    returns-3)

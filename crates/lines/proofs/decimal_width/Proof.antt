@@ -20,12 +20,6 @@ abbrev μ-loop : tie.MeasureT-loop
 loop-holds : tie.Need-loop-holds Inv-loop μ-loop
 loop-holds c = (omega arith, omega arith)
 
-add-width : tie.Need-add-width Inv-loop μ-loop
-add-width c = search needs
-
-loop-less : tie.Need-loop-less Inv-loop μ-loop
-loop-less c = search needs
-
 loop-again : tie.Need-loop-again Inv-loop μ-loop
 loop-again c =
     let r = c .before .loop .rest in
@@ -36,4 +30,11 @@ returns c = omega (arith, width-one (c .before .loop .rest) (omega arith))
 
 pub decimal-width-spec : {M : Type 1} → statement M
 decimal-width-spec =
-    tie.close (tie.spec Inv-loop μ-loop loop-holds add-width loop-less loop-again returns)
+    tie.close
+    (tie.spec
+    Inv-loop
+    μ-loop
+    loop-holds
+    (λ c. search needs) (λ c. search needs)  -- add-width, loop-less
+    loop-again
+    returns)

@@ -10,17 +10,8 @@ use Rattle.lines.proofs.hex_to_bytes.Tie as tie
 returns : tie.Need-returns
 returns c = decode-odd _ _ (omega arith)
 
-is-hex-requires : tie.Need-is-hex-requires
-is-hex-requires c κs = search needs
-
 returns-2 : tie.Need-returns-2
 returns-2 c = decode-full _ _ (λ z. omega arith) (sym (c .before .before .is-hex .ensures) ∙ (c .before .if2 .taken)) (omega arith)
-
-put-bytes-requires : tie.Need-put-bytes-requires
-put-bytes-requires c κs = search needs
-
-same-length : tie.Need-same-length
-same-length c = search needs
 
 returns-3 : tie.Need-returns-3
 returns-3 c =
@@ -33,4 +24,10 @@ returns-4 c = decode-not-hex _ _ (λ z. omega arith) (sym (c .before .is-hex .en
 pub hex-to-bytes-spec : {M : Type 1} → statement M
 hex-to-bytes-spec =
     tie.close
-    (tie.spec returns is-hex-requires returns-2 put-bytes-requires same-length returns-3 returns-4)
+    (tie.spec
+    returns
+    (λ c κs. search needs)  -- is-hex-requires
+    returns-2
+    (λ c κs. search needs) (λ c. search needs)  -- put-bytes-requires, same-length
+    returns-3
+    returns-4)

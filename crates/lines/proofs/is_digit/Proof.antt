@@ -5,14 +5,12 @@ use borrow.Author.Needs.{needs}
 use Rattle.lines.proofs.is_digit.Statement.{statement}
 use Rattle.lines.proofs.is_digit.Tie as tie
 
-is-lower-requires : tie.Need-is-lower-requires
-is-lower-requires c κs = search needs
-
-within-requires : tie.Need-within-requires
-within-requires c κs = search needs
-
 returns : tie.Need-returns
 returns c = rw (c .before .is-lower .ensures, c .within .ensures) (hex-ranges (c .before .before .args .b))
 
 pub is-digit-spec : {M : Type 1} → statement M
-is-digit-spec = tie.close (tie.spec is-lower-requires within-requires returns)
+is-digit-spec =
+    tie.close
+    (tie.spec
+    (λ c κs. search needs) (λ c κs. search needs)  -- is-lower-requires, within-requires
+    returns)

@@ -5,15 +5,13 @@ use borrow.Author.Needs.{needs}
 use Rattle.lines.proofs.is_lower.Statement.{statement}
 use Rattle.lines.proofs.is_lower.Tie as tie
 
-within-requires : tie.Need-within-requires
-within-requires c κs = search needs
-
-within-requires-2 : tie.Need-within-requires-2
-within-requires-2 c κs = search needs
-
 returns : tie.Need-returns
 unfolding isLowerHex
 returns c = rw (c .before .within .ensures, c .within2 .ensures)
 
 pub is-lower-spec : {M : Type 1} → statement M
-is-lower-spec = tie.close (tie.spec within-requires within-requires-2 returns)
+is-lower-spec =
+    tie.close
+    (tie.spec
+    (λ c κs. search needs) (λ c κs. search needs)  -- within-requires, within-requires-2
+    returns)

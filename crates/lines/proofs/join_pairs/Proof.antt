@@ -21,44 +21,11 @@ abbrev μ-loop : tie.MeasureT-loop
 loop-holds : tie.Need-loop-holds Inv-loop μ-loop
 loop-holds c = (omega arith, refl, refl)
 
-mul-wide : tie.Need-mul-wide Inv-loop μ-loop
-mul-wide c = search needs
-
-shared-slice-read-wide : tie.Need-shared-slice-read-wide Inv-loop μ-loop
-shared-slice-read-wide c = search needs
-
-wide-requires : tie.Need-wide-requires Inv-loop μ-loop
-wide-requires c κs = search needs
-
-mul-wide-2 : tie.Need-mul-wide-2 Inv-loop μ-loop
-mul-wide-2 c = search needs
-
-add-wide : tie.Need-add-wide Inv-loop μ-loop
-add-wide c = search needs
-
-shared-slice-read-wide-2 : tie.Need-shared-slice-read-wide-2 Inv-loop μ-loop
-shared-slice-read-wide-2 c = search needs
-
-wide-requires-2 : tie.Need-wide-requires-2 Inv-loop μ-loop
-wide-requires-2 c κs = search needs
-
 mul-pairs : tie.Need-mul-pairs Inv-loop μ-loop
 mul-pairs c = omega (arith, c .before .shared-slice-known3 .given (2 * c .before .before .before .before .before .loop .i + 1), (c .wide2 .ensures))
 
 add-pairs : tie.Need-add-pairs Inv-loop μ-loop
 add-pairs c = omega (arith, c .before .before .before .shared-slice-known2 .given (2 * c .before .before .before .before .before .loop .i), (c .before .before .wide .ensures), c .before .shared-slice-known3 .given (2 * c .before .before .before .before .before .loop .i + 1), (c .wide2 .ensures))
-
-mul-pairs-2 : tie.Need-mul-pairs-2 Inv-loop μ-loop
-mul-pairs-2 c = search needs
-
-slice-write-pairs : tie.Need-slice-write-pairs Inv-loop μ-loop
-slice-write-pairs c = search needs
-
-add-i : tie.Need-add-i Inv-loop μ-loop
-add-i c = search needs
-
-loop-less : tie.Need-loop-less Inv-loop μ-loop
-loop-less c = search needs
 
 loop-again : tie.Need-loop-again Inv-loop μ-loop
 loop-again c =
@@ -84,19 +51,11 @@ join-pairs-spec =
     Inv-loop
     μ-loop
     loop-holds
-    mul-wide
-    shared-slice-read-wide
-    wide-requires
-    mul-wide-2
-    add-wide
-    shared-slice-read-wide-2
-    wide-requires-2
+    (λ c. search needs) (λ c. search needs) (λ c κs. search needs) (λ c. search needs)  -- mul-wide, shared-slice-read-wide, wide-requires, mul-wide-2
+    (λ c. search needs) (λ c. search needs) (λ c κs. search needs)  -- add-wide, shared-slice-read-wide-2, wide-requires-2
     mul-pairs
     add-pairs
-    mul-pairs-2
-    slice-write-pairs
-    add-i
-    loop-less
+    (λ c. search needs) (λ c. search needs) (λ c. search needs) (λ c. search needs)  -- mul-pairs-2, slice-write-pairs, add-i, loop-less
     loop-again
     same-length
     returns)

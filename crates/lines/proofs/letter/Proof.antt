@@ -6,12 +6,6 @@ use borrow.Author.Needs.{needs}
 use Rattle.lines.proofs.letter.Statement.{statement}
 use Rattle.lines.proofs.letter.Tie as tie
 
-add-result : tie.Need-add-result
-add-result c = search needs
-
-add-result-2 : tie.Need-add-result-2
-add-result-2 c = search needs
-
 returns : tie.Need-returns
 unfolding letterOf
 returns c = rw (lt-ltb _ _ (c .if1 .taken))
@@ -21,4 +15,9 @@ unfolding letterOf
 returns-2 c = rw (le-ltb _ _ (c .if1 .left))
 
 pub letter-spec : {M : Type 1} → statement M
-letter-spec = tie.close (tie.spec add-result add-result-2 returns returns-2)
+letter-spec =
+    tie.close
+    (tie.spec
+    (λ c. search needs) (λ c. search needs)  -- add-result, add-result-2
+    returns
+    returns-2)

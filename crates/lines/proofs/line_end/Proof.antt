@@ -6,27 +6,6 @@ use borrow.Author.Needs.{needs}
 use Rattle.lines.proofs.line_end.Statement.{statement}
 use Rattle.lines.proofs.line_end.Tie as tie
 
-least-requires : tie.Need-least-requires
-least-requires c κs = search needs
-
-pass-groups-requires : tie.Need-pass-groups-requires
-pass-groups-requires c κs = search needs
-
-pass-groups-requires-2 : tie.Need-pass-groups-requires-2
-pass-groups-requires-2 c κs = search needs
-
-sub-line-length : tie.Need-sub-line-length
-sub-line-length c = search needs
-
-part-line-length-start : tie.Need-part-line-length-start
-part-line-length-start c = search needs
-
-part-line-length-end : tie.Need-part-line-length-end
-part-line-length-end c = search needs
-
-line-length-requires : tie.Need-line-length-requires
-line-length-requires c κs = search needs
-
 add-result : tie.Need-add-result
 add-result c =
     let t = c .before .before .before .before .before .before .args .text .now in
@@ -46,12 +25,7 @@ pub line-end-spec : {M : Type 1} → statement M
 line-end-spec =
     tie.close
     (tie.spec
-    least-requires
-    pass-groups-requires
-    pass-groups-requires-2
-    sub-line-length
-    part-line-length-start
-    part-line-length-end
-    line-length-requires
+    (λ c κs. search needs) (λ c κs. search needs) (λ c κs. search needs) (λ c. search needs)  -- least-requires, pass-groups-requires, pass-groups-requires-2, sub-line-length
+    (λ c. search needs) (λ c. search needs) (λ c κs. search needs)  -- part-line-length-start, part-line-length-end, line-length-requires
     add-result
     returns)

@@ -6,18 +6,9 @@ use borrow.Author.Needs.{needs}
 use Rattle.lines.proofs.number_to_decimal.Statement.{statement}
 use Rattle.lines.proofs.number_to_decimal.Tie as tie
 
-decimal-width-requires : tie.Need-decimal-width-requires
-decimal-width-requires c κs = search needs
-
 returns : tie.Need-returns
 unfolding writtenOf
 returns c = rw (← (c .before .decimal-width .ensures), lt-ltb _ _ (c .if1 .taken))
-
-put-decimal-requires : tie.Need-put-decimal-requires
-put-decimal-requires c κs = search needs
-
-same-length : tie.Need-same-length
-same-length c = search needs
 
 returns-2 : tie.Need-returns-2
 unfolding writtenOf
@@ -25,4 +16,9 @@ returns-2 c = rw (c .before .before .put-decimal .ensures, ← (c .before .befor
 
 pub number-to-decimal-spec : {M : Type 1} → statement M
 number-to-decimal-spec =
-    tie.close (tie.spec decimal-width-requires returns put-decimal-requires same-length returns-2)
+    tie.close
+    (tie.spec
+    (λ c κs. search needs)  -- decimal-width-requires
+    returns
+    (λ c κs. search needs) (λ c. search needs)  -- put-decimal-requires, same-length
+    returns-2)

@@ -32,9 +32,13 @@ add-result c = omega (arith, digits (c .before .before .args .pair) (c .before .
 cast-result : tie.Need-cast-result
 cast-result c = omega (arith, digits (c .before .before .args .pair) (c .before .before .pre), (c .before .digit .ensures), (c .digit2 .ensures))
 
-returns : tie.Need-returns
-returns c = search needs
-
 pub pair-byte-spec : {M : Type 1} → statement M
 pair-byte-spec =
-    tie.close (tie.spec digit-requires mul-result digit-requires-2 add-result cast-result returns)
+    tie.close
+    (tie.spec
+    digit-requires
+    mul-result
+    digit-requires-2
+    add-result
+    cast-result
+    (λ c. search needs))  -- returns

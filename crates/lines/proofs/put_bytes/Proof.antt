@@ -22,48 +22,12 @@ abbrev μ-loop : tie.MeasureT-loop
 loop-holds : tie.Need-loop-holds Inv-loop μ-loop
 loop-holds c = (omega arith, refl, refl)
 
-sub-least : tie.Need-sub-least Inv-loop μ-loop
-sub-least c = search needs
-
-least-requires : tie.Need-least-requires Inv-loop μ-loop
-least-requires c κs = search needs
-
-add-next : tie.Need-add-next Inv-loop μ-loop
-add-next c = search needs
-
-mul-start : tie.Need-mul-start Inv-loop μ-loop
-mul-start c = search needs
-
-mul-end : tie.Need-mul-end Inv-loop μ-loop
-mul-end c = search needs
-
-sub-put-group : tie.Need-sub-put-group Inv-loop μ-loop
-sub-put-group c = search needs
-
-part-put-group-start : tie.Need-part-put-group-start Inv-loop μ-loop
-part-put-group-start c = search needs
-
-part-put-group-end : tie.Need-part-put-group-end Inv-loop μ-loop
-part-put-group-end c = search needs
-
-sub-put-group-2 : tie.Need-sub-put-group-2 Inv-loop μ-loop
-sub-put-group-2 c = search needs
-
-part-put-group-start-2 : tie.Need-part-put-group-start-2 Inv-loop μ-loop
-part-put-group-start-2 c = search needs
-
-part-put-group-end-2 : tie.Need-part-put-group-end-2 Inv-loop μ-loop
-part-put-group-end-2 c = search needs
-
 put-group-requires : tie.Need-put-group-requires Inv-loop μ-loop
 put-group-requires c κs =
     let s = c .before .before .before .before .before .before .before in
     let d = c .before .before .before .before .loop .done in
     let n = c .before .before .least .result in
     (every-part isHex (s .args .text .now) (2 * d) (2 * (d + n) - 2 * d) (s .pre .0), search needs)
-
-loop-less : tie.Need-loop-less Inv-loop μ-loop
-loop-less c = search needs
 
 loop-again : tie.Need-loop-again Inv-loop μ-loop
 loop-again c =
@@ -89,19 +53,11 @@ put-bytes-spec =
     Inv-loop
     μ-loop
     loop-holds
-    sub-least
-    least-requires
-    add-next
-    mul-start
-    mul-end
-    sub-put-group
-    part-put-group-start
-    part-put-group-end
-    sub-put-group-2
-    part-put-group-start-2
-    part-put-group-end-2
+    (λ c. search needs) (λ c κs. search needs) (λ c. search needs) (λ c. search needs)  -- sub-least, least-requires, add-next, mul-start
+    (λ c. search needs) (λ c. search needs) (λ c. search needs) (λ c. search needs)  -- mul-end, sub-put-group, part-put-group-start, part-put-group-end
+    (λ c. search needs) (λ c. search needs) (λ c. search needs)  -- sub-put-group-2, part-put-group-start-2, part-put-group-end-2
     put-group-requires
-    loop-less
+    (λ c. search needs)  -- loop-less
     loop-again
     same-length
     returns)

@@ -29,24 +29,12 @@ loop-holds c =
     let h = width-some (a .n) in
     (omega arith, take-all (a .width - 1 + 1) (decimalOf (a .n)) (omega arith), refl, sym (put-start (decimalOf (a .n)) (a .out .now) (a .width - 1 + 1) (omega arith)))
 
-cast-out : tie.Need-cast-out Inv-loop μ-loop
-cast-out c = search needs
-
-add-out : tie.Need-add-out Inv-loop μ-loop
-add-out c = search needs
-
-slice-write-out : tie.Need-slice-write-out Inv-loop μ-loop
-slice-write-out c = search needs
-
 sub-i-2 : tie.Need-sub-i-2 Inv-loop μ-loop
 sub-i-2 c =
     let a = c .before .before .args in
     let l = c .before .loop in
     let z = put-turn (a .n) (l .i) (l .rest) (a .out .now) (omega arith) (omega arith) (l .inv .1) (c .loop-test .taken) in
     omega arith
-
-loop-less : tie.Need-loop-less Inv-loop μ-loop
-loop-less c = search needs
 
 loop-again : tie.Need-loop-again Inv-loop μ-loop
 loop-again c =
@@ -55,15 +43,6 @@ loop-again c =
     let z = put-turn (a .n) (l .i) (l .rest) (a .out .now) (omega arith) (omega arith) (l .inv .1) (c .loop-test .taken) in
     let e : l .i - 1 + 1 ≡ l .i = omega arith in
     (omega arith, rw e (z .1), simp length-set (omega arith), rw e (ap (λ o. set o (l .i) (48 + l .rest % 10)) (l .inv .3) ∙ z .2))
-
-cast-out-2 : tie.Need-cast-out-2 Inv-loop μ-loop
-cast-out-2 c = search needs
-
-add-out-2 : tie.Need-add-out-2 Inv-loop μ-loop
-add-out-2 c = search needs
-
-slice-write-out-2 : tie.Need-slice-write-out-2 Inv-loop μ-loop
-slice-write-out-2 c = search needs
 
 same-length : tie.Need-same-length Inv-loop μ-loop
 same-length c = simp length-set (c .before .loop .inv .2)
@@ -82,14 +61,10 @@ put-decimal-spec =
     μ-loop
     sub-i
     loop-holds
-    cast-out
-    add-out
-    slice-write-out
+    (λ c. search needs) (λ c. search needs) (λ c. search needs)  -- cast-out, add-out, slice-write-out
     sub-i-2
-    loop-less
+    (λ c. search needs)  -- loop-less
     loop-again
-    cast-out-2
-    add-out-2
-    slice-write-out-2
+    (λ c. search needs) (λ c. search needs) (λ c. search needs)  -- cast-out-2, add-out-2, slice-write-out-2
     same-length
     returns)

@@ -21,35 +21,14 @@ abbrev μ-loop : tie.MeasureT-loop
 loop-holds : tie.Need-loop-holds Inv-loop μ-loop
 loop-holds c = (omega arith, refl, refl)
 
-shared-slice-read-b : tie.Need-shared-slice-read-b Inv-loop μ-loop
-shared-slice-read-b c = search needs
-
 letter-requires : tie.Need-letter-requires Inv-loop μ-loop
 letter-requires c κs = omega (arith, (c .shared-slice-known2 .given) (c .before .before .loop .i))
-
-mul-out : tie.Need-mul-out Inv-loop μ-loop
-mul-out c = search needs
-
-slice-write-out : tie.Need-slice-write-out Inv-loop μ-loop
-slice-write-out c = search needs
 
 letter-requires-2 : tie.Need-letter-requires-2 Inv-loop μ-loop
 letter-requires-2 c κs = omega (arith, (c .before .shared-slice-known2 .given) (c .before .before .before .loop .i))
 
-mul-out-2 : tie.Need-mul-out-2 Inv-loop μ-loop
-mul-out-2 c = search needs
-
-add-out : tie.Need-add-out Inv-loop μ-loop
-add-out c = search needs
-
 slice-write-out-2 : tie.Need-slice-write-out-2 Inv-loop μ-loop
 slice-write-out-2 c = simp length-set (omega arith)
-
-add-i : tie.Need-add-i Inv-loop μ-loop
-add-i c = search needs
-
-loop-less : tie.Need-loop-less Inv-loop μ-loop
-loop-less c = search needs
 
 loop-again : tie.Need-loop-again Inv-loop μ-loop
 loop-again c =
@@ -81,16 +60,13 @@ put-digits-spec =
     Inv-loop
     μ-loop
     loop-holds
-    shared-slice-read-b
+    (λ c. search needs)  -- shared-slice-read-b
     letter-requires
-    mul-out
-    slice-write-out
+    (λ c. search needs) (λ c. search needs)  -- mul-out, slice-write-out
     letter-requires-2
-    mul-out-2
-    add-out
+    (λ c. search needs) (λ c. search needs)  -- mul-out-2, add-out
     slice-write-out-2
-    add-i
-    loop-less
+    (λ c. search needs) (λ c. search needs)  -- add-i, loop-less
     loop-again
     same-length
     returns)

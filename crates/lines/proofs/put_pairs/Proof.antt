@@ -21,23 +21,8 @@ abbrev μ-loop : tie.MeasureT-loop
 loop-holds : tie.Need-loop-holds Inv-loop μ-loop
 loop-holds c = (omega arith, refl, refl)
 
-mul-pair-byte : tie.Need-mul-pair-byte Inv-loop μ-loop
-mul-pair-byte c = search needs
-
-shared-slice-read-pair-byte : tie.Need-shared-slice-read-pair-byte Inv-loop μ-loop
-shared-slice-read-pair-byte c = search needs
-
 pair-byte-requires : tie.Need-pair-byte-requires Inv-loop μ-loop
 pair-byte-requires c κs = every-says isPair (c .before .before .before .before .before .args .pairs .now) (c .before .before .loop .i) (c .before .before .before .before .before .pre .0) (omega arith)
-
-slice-write-out : tie.Need-slice-write-out Inv-loop μ-loop
-slice-write-out c = search needs
-
-add-i : tie.Need-add-i Inv-loop μ-loop
-add-i c = search needs
-
-loop-less : tie.Need-loop-less Inv-loop μ-loop
-loop-less c = search needs
 
 loop-again : tie.Need-loop-again Inv-loop μ-loop
 loop-again c =
@@ -63,12 +48,9 @@ put-pairs-spec =
     Inv-loop
     μ-loop
     loop-holds
-    mul-pair-byte
-    shared-slice-read-pair-byte
+    (λ c. search needs) (λ c. search needs)  -- mul-pair-byte, shared-slice-read-pair-byte
     pair-byte-requires
-    slice-write-out
-    add-i
-    loop-less
+    (λ c. search needs) (λ c. search needs) (λ c. search needs)  -- slice-write-out, add-i, loop-less
     loop-again
     same-length
     returns)

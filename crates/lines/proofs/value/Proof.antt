@@ -21,9 +21,6 @@ abbrev μ-loop : tie.MeasureT-loop
 loop-holds : tie.Need-loop-holds Inv-loop μ-loop
 loop-holds c = (omega arith, omega arith, refl)
 
-shared-slice-read-last : tie.Need-shared-slice-read-last Inv-loop μ-loop
-shared-slice-read-last c = search needs
-
 sub-last : tie.Need-sub-last Inv-loop μ-loop
 sub-last c = omega (arith, decimal-at (c .before .before .before .args .text .now) (c .before .before .loop .i) (c .before .before .before .pre) (omega arith))
 
@@ -49,12 +46,6 @@ mul-v c = omega (arith, decimal-at (c .before .before .before .before .args .tex
 add-v : tie.Need-add-v Inv-loop μ-loop
 add-v c = omega (arith, decimal-at (c .before .before .before .before .args .text .now) (c .before .before .before .loop .i) (c .before .before .before .before .pre) (omega arith))
 
-add-i : tie.Need-add-i Inv-loop μ-loop
-add-i c = search needs
-
-loop-less : tie.Need-loop-less Inv-loop μ-loop
-loop-less c = search needs
-
 loop-again : tie.Need-loop-again Inv-loop μ-loop
 loop-again c =
     let t = c .before .before .before .before .args .text .now in
@@ -76,14 +67,13 @@ value-spec =
     Inv-loop
     μ-loop
     loop-holds
-    shared-slice-read-last
+    (λ c. search needs)  -- shared-slice-read-last
     sub-last
     cast-last
     sub-if1
     returns
     mul-v
     add-v
-    add-i
-    loop-less
+    (λ c. search needs) (λ c. search needs)  -- add-i, loop-less
     loop-again
     returns-2)

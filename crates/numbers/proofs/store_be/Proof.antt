@@ -24,21 +24,6 @@ loop-holds c =
     let l : length (bytesBe (a .w) (a .x)) ≡ a .w = length-be (a .w) (a .x) in
     (omega arith, refl, take-all (a .w) (bytesBe (a .w) (a .x)) (omega arith), back-start (a .out .now) (a .at) (a .w) (bytesBe (a .w) (a .x)) l)
 
-sub-i : tie.Need-sub-i Inv-loop μ-loop
-sub-i c = search needs
-
-cast-out : tie.Need-cast-out Inv-loop μ-loop
-cast-out c = search needs
-
-add-out : tie.Need-add-out Inv-loop μ-loop
-add-out c = search needs
-
-slice-write-out : tie.Need-slice-write-out Inv-loop μ-loop
-slice-write-out c = search needs
-
-loop-less : tie.Need-loop-less Inv-loop μ-loop
-loop-less c = search needs
-
 loop-again : tie.Need-loop-again Inv-loop μ-loop
 loop-again c =
     let l = (c .before .loop) in
@@ -63,11 +48,8 @@ store-be-spec =
     Inv-loop
     μ-loop
     loop-holds
-    sub-i
-    cast-out
-    add-out
-    slice-write-out
-    loop-less
+    (λ c. search needs) (λ c. search needs) (λ c. search needs) (λ c. search needs)  -- sub-i, cast-out, add-out, slice-write-out
+    (λ c. search needs)  -- loop-less
     loop-again
     same-length
     returns)

@@ -26,21 +26,6 @@ loop-holds c =
     let z : a .w - 0 ≡ a .w = omega arith in
     (omega arith, paste-zero (a .out .now) (a .at) (bytesLe (a .w) (a .x)), rw z, refl)
 
-cast-out : tie.Need-cast-out Inv-loop μ-loop
-cast-out c = search needs
-
-add-out : tie.Need-add-out Inv-loop μ-loop
-add-out c = search needs
-
-slice-write-out : tie.Need-slice-write-out Inv-loop μ-loop
-slice-write-out c = search needs
-
-add-i : tie.Need-add-i Inv-loop μ-loop
-add-i c = search needs
-
-loop-less : tie.Need-loop-less Inv-loop μ-loop
-loop-less c = search needs
-
 loop-again : tie.Need-loop-again Inv-loop μ-loop
 loop-again c =
     let l = (c .before .loop) in
@@ -73,11 +58,8 @@ store-le-spec =
     Inv-loop
     μ-loop
     loop-holds
-    cast-out
-    add-out
-    slice-write-out
-    add-i
-    loop-less
+    (λ c. search needs) (λ c. search needs) (λ c. search needs) (λ c. search needs)  -- cast-out, add-out, slice-write-out, add-i
+    (λ c. search needs)  -- loop-less
     loop-again
     same-length
     returns)

@@ -25,26 +25,11 @@ mul-total c =
     let l = (c .before .loop) in
     record { fits = omega (arith, fits-64 (l .i) (l .total) 0 (omega arith) (l .inv .2) (omega arith)) }
 
-add-wide : tie.Need-add-wide Inv-loop μ-loop
-add-wide c = search needs
-
-shared-slice-read-wide : tie.Need-shared-slice-read-wide Inv-loop μ-loop
-shared-slice-read-wide c = search needs
-
-wide-requires : tie.Need-wide-requires Inv-loop μ-loop
-wide-requires c κs = search needs
-
 add-total : tie.Need-add-total Inv-loop μ-loop
 add-total c =
     let l = (c .before .before .before .loop) in
     let a = (c .before .before .before .before .before .args) in
     record { fits = fits-64 (l .i) (l .total) (c .wide .result) (omega arith) (l .inv .2) (omega (arith, (c .before .shared-slice-known2 .given) (a .at + l .i))) }
-
-add-i : tie.Need-add-i Inv-loop μ-loop
-add-i c = search needs
-
-loop-less : tie.Need-loop-less Inv-loop μ-loop
-loop-less c = search needs
 
 loop-again : tie.Need-loop-again Inv-loop μ-loop
 loop-again c =
@@ -70,11 +55,8 @@ sum-be-spec =
     μ-loop
     loop-holds
     mul-total
-    add-wide
-    shared-slice-read-wide
-    wide-requires
+    (λ c. search needs) (λ c. search needs) (λ c κs. search needs)  -- add-wide, shared-slice-read-wide, wide-requires
     add-total
-    add-i
-    loop-less
+    (λ c. search needs) (λ c. search needs)  -- add-i, loop-less
     loop-again
     returns)

@@ -23,31 +23,16 @@ loop-holds c =
     let z : a .w - a .w ≡ 0 = omega arith in
     (omega arith, rw z, rw z (omega arith))
 
-sub-i : tie.Need-sub-i Inv-loop μ-loop
-sub-i c = search needs
-
 mul-sum : tie.Need-mul-sum Inv-loop μ-loop
 mul-sum c =
     let l = (c .before .loop) in
     record { fits = omega (arith, fits-64 ((c .before .before .before .args .w) - l .i) (l .sum) 0 (omega arith) (l .inv .2) (omega arith)) }
-
-add-wide : tie.Need-add-wide Inv-loop μ-loop
-add-wide c = search needs
-
-shared-slice-read-wide : tie.Need-shared-slice-read-wide Inv-loop μ-loop
-shared-slice-read-wide c = search needs
-
-wide-requires : tie.Need-wide-requires Inv-loop μ-loop
-wide-requires c κs = search needs
 
 add-sum : tie.Need-add-sum Inv-loop μ-loop
 add-sum c =
     let l = (c .before .before .before .loop) in
     let a = (c .before .before .before .before .before .args) in
     record { fits = fits-64 (a .w - l .i) (l .sum) (c .wide .result) (omega arith) (l .inv .2) (omega (arith, (c .before .shared-slice-known2 .given) (a .at + (l .i - 1)))) }
-
-loop-less : tie.Need-loop-less Inv-loop μ-loop
-loop-less c = search needs
 
 loop-again : tie.Need-loop-again Inv-loop μ-loop
 loop-again c =
@@ -75,12 +60,10 @@ sum-le-spec =
     Inv-loop
     μ-loop
     loop-holds
-    sub-i
+    (λ c. search needs)  -- sub-i
     mul-sum
-    add-wide
-    shared-slice-read-wide
-    wide-requires
+    (λ c. search needs) (λ c. search needs) (λ c κs. search needs)  -- add-wide, shared-slice-read-wide, wide-requires
     add-sum
-    loop-less
+    (λ c. search needs)  -- loop-less
     loop-again
     returns)

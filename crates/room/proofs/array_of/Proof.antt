@@ -6,14 +6,12 @@ use borrow.Author.Needs.{needs}
 use Rattle.room.proofs.array_of.Statement.{statement}
 use Rattle.room.proofs.array_of.Tie as tie
 
-slice-aggregate-copy : tie.Need-slice-aggregate-copy
-slice-aggregate-copy c = search needs
-
-copy-requires : tie.Need-copy-requires
-copy-requires c κs = search needs
-
 returns : tie.Need-returns
 returns c = copied-over (c .before .before .before .before .args .map .now) _ _ _ refl (sym (c .before .before .before .before .pre)) (c .before .copy .ensures .1)
 
 pub array-of-spec : {M : Type 1} → statement M
-array-of-spec = tie.close (tie.spec slice-aggregate-copy copy-requires returns)
+array-of-spec =
+    tie.close
+    (tie.spec
+    (λ c. search needs) (λ c κs. search needs)  -- slice-aggregate-copy, copy-requires
+    returns)

@@ -8,15 +8,6 @@ use borrow.Author.Needs.{needs}
 use Rattle.room.proofs.tilambok_room_block.Statement.{statement}
 use Rattle.room.proofs.tilambok_room_block.Tie as tie
 
-nth-block-requires : tie.Need-nth-block-requires
-nth-block-requires c κs = search needs
-
-enum-known-block : tie.Need-enum-known-block
-enum-known-block c = search needs
-
-enum-told : tie.Need-enum-told
-enum-told c = search needs
-
 returns : tie.Need-returns
 returns c = ap (λ (f : Found). numberOf (length (c .before .before .before .before .before .args .map .now)) f) (sym (c .before .block .given .1) ∙ (c .before .before .before .nth-block .ensures))
 
@@ -25,4 +16,8 @@ returns-2 c = ap (λ (f : Found). numberOf (length (c .before .before .before .b
 
 pub tilambok-room-block-spec : {M : Type 1} → statement M
 tilambok-room-block-spec =
-    tie.close (tie.spec nth-block-requires enum-known-block enum-told returns returns-2)
+    tie.close
+    (tie.spec
+    (λ c κs. search needs) (λ c. search needs) (λ c. search needs)  -- nth-block-requires, enum-known-block, enum-told
+    returns
+    returns-2)

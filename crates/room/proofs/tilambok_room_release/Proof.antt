@@ -10,18 +10,6 @@ use borrow.Author.Needs.{needs}
 use Rattle.room.proofs.tilambok_room_release.Statement.{statement}
 use Rattle.room.proofs.tilambok_room_release.Tie as tie
 
-array-of-requires : tie.Need-array-of-requires
-array-of-requires c κs = search needs
-
-release-requires : tie.Need-release-requires
-release-requires c κs = search needs
-
-put-back-requires : tie.Need-put-back-requires
-put-back-requires c κs = search needs
-
-same-length : tie.Need-same-length
-same-length c = search needs
-
 returns : tie.Need-returns
 unfolding ifWhole
 returns c =
@@ -37,4 +25,7 @@ returns-2 c = (rw (ne-eqb _ _ (c .if1 .left)), rw (ne-eqb _ _ (c .if1 .left)))
 pub tilambok-room-release-spec : {M : Type 1} → statement M
 tilambok-room-release-spec =
     tie.close
-    (tie.spec array-of-requires release-requires put-back-requires same-length returns returns-2)
+    (tie.spec
+    (λ c κs. search needs) (λ c κs. search needs) (λ c κs. search needs) (λ c. search needs)  -- array-of-requires, release-requires, put-back-requires, same-length
+    returns
+    returns-2)

@@ -23,36 +23,6 @@ abbrev μ-loop : tie.MeasureT-loop
 loop-holds : tie.Need-loop-holds Inv-loop μ-loop
 loop-holds c = (omega arith, (refl, (omega arith, (omega arith, (omega arith, (omega arith, (λ k h. absurd (omega arith), (refl, refl))))))))
 
-mul-row : tie.Need-mul-row Inv-loop μ-loop
-mul-row c = search needs
-
-element-copy-out-row : tie.Need-element-copy-out-row Inv-loop μ-loop
-element-copy-out-row c = search needs
-
-row-fits-requires : tie.Need-row-fits-requires Inv-loop μ-loop
-row-fits-requires c κs = search needs
-
-held-of-requires : tie.Need-held-of-requires Inv-loop μ-loop
-held-of-requires c κs = search needs
-
-add-held : tie.Need-add-held Inv-loop μ-loop
-add-held c = search needs
-
-share-of-requires : tie.Need-share-of-requires Inv-loop μ-loop
-share-of-requires c κs = search needs
-
-add-shared : tie.Need-add-shared Inv-loop μ-loop
-add-shared c = search needs
-
-array-write-ids : tie.Need-array-write-ids Inv-loop μ-loop
-array-write-ids c = search needs
-
-add-i : tie.Need-add-i Inv-loop μ-loop
-add-i c = search needs
-
-loop-less : tie.Need-loop-less Inv-loop μ-loop
-loop-less c = search needs
-
 loop-again : tie.Need-loop-again Inv-loop μ-loop
 loop-again c = let l = (c .before .before .before .before .before .before .before .before .loop) in
     let k = c .before .before .before .before .before .before .before .before .before .args .t1 in
@@ -88,15 +58,8 @@ sum-rows-spec =
     Inv-loop
     μ-loop
     loop-holds
-    mul-row
-    element-copy-out-row
-    row-fits-requires
-    held-of-requires
-    add-held
-    share-of-requires
-    add-shared
-    array-write-ids
-    add-i
-    loop-less
+    (λ c. search needs) (λ c. search needs) (λ c κs. search needs) (λ c κs. search needs)  -- mul-row, element-copy-out-row, row-fits-requires, held-of-requires
+    (λ c. search needs) (λ c κs. search needs) (λ c. search needs) (λ c. search needs)  -- add-held, share-of-requires, add-shared, array-write-ids
+    (λ c. search needs) (λ c. search needs)  -- add-i, loop-less
     loop-again
     returns)

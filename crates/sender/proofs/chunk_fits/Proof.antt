@@ -12,12 +12,14 @@ returns : tie.Need-returns
 unfolding chunkFits
 returns c = rw (lt-leb 1 (c .before .args .chunk) (omega arith))
 
-largest-size-requires : tie.Need-largest-size-requires
-largest-size-requires c κs = search needs
-
 returns-2 : tie.Need-returns-2
 unfolding chunkFits
 returns-2 c = rw (le-leb 1 (c .before .before .args .chunk) (omega arith), ← (c .largest-size .ensures))
 
 pub chunk-fits-spec : {M : Type 1} → statement M
-chunk-fits-spec = tie.close (tie.spec returns largest-size-requires returns-2)
+chunk-fits-spec =
+    tie.close
+    (tie.spec
+    returns
+    (λ c κs. search needs)  -- largest-size-requires
+    returns-2)

@@ -9,15 +9,6 @@ use borrow.Author.Needs.{needs}
 use Rattle.sender.proofs.frame_count.Statement.{statement}
 use Rattle.sender.proofs.frame_count.Tie as tie
 
-sub-result : tie.Need-sub-result
-sub-result c = search needs
-
-cast-result : tie.Need-cast-result
-cast-result c = search needs
-
-div-result : tie.Need-div-result
-div-result c = search needs
-
 add-result : tie.Need-add-result
 add-result c =
     let a = (c .before .args) in
@@ -29,4 +20,9 @@ returns c =
     count-is (a .outgoing) (a .message .now) (omega arith) (omega arith)
 
 pub frame-count-spec : {M : Type 1} → statement M
-frame-count-spec = tie.close (tie.spec sub-result cast-result div-result add-result returns)
+frame-count-spec =
+    tie.close
+    (tie.spec
+    (λ c. search needs) (λ c. search needs) (λ c. search needs)  -- sub-result, cast-result, div-result
+    add-result
+    returns)

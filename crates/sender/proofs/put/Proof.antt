@@ -16,16 +16,15 @@ cast-t11 c =
     let h = headerFor (a .outgoing) (a .kind) (a .info) (length (a .payload .now)) in
     omega (arith, size-most (h .version) (h .kind) (h .size) (fault-none h (c .before .before .before .before .before .pre) .size), largest-range (h .version))
 
-write-requires : tie.Need-write-requires
-write-requires c κs = search needs
-
-same-length : tie.Need-same-length
-same-length c = search needs
-
 returns : tie.Need-returns
 returns c =
     let a = (c .before .before .before .before .before .before .before .before .before .args) in
     (c .before .before .write .ensures) ∙ write-puts (headerFor (a .outgoing) (a .kind) (a .info) (length (a .payload .now))) (a .payload .now) (a .out .now) (c .before .before .before .before .before .before .before .before .before .pre) refl
 
 pub put-spec : {M : Type 1} → statement M
-put-spec = tie.close (tie.spec cast-t11 write-requires same-length returns)
+put-spec =
+    tie.close
+    (tie.spec
+    cast-t11
+    (λ c κs. search needs) (λ c. search needs)  -- write-requires, same-length
+    returns)

@@ -12,30 +12,12 @@ use borrow.Author.Needs.{needs}
 use Rattle.sender.proofs.put_first.Statement.{statement}
 use Rattle.sender.proofs.put_first.Tie as tie
 
-slice-aggregate-put-be4 : tie.Need-slice-aggregate-put-be4
-slice-aggregate-put-be4 c = search needs
-
-put-be4-requires : tie.Need-put-be4-requires
-put-be4-requires c κs = search needs
-
-slice-aggregate-put-be4-2 : tie.Need-slice-aggregate-put-be4-2
-slice-aggregate-put-be4-2 c = search needs
-
-put-be4-requires-2 : tie.Need-put-be4-requires-2
-put-be4-requires-2 c κs = search needs
-
-slice-aggregate-put : tie.Need-slice-aggregate-put
-slice-aggregate-put c = search needs
-
 put-requires : tie.Need-put-requires
 put-requires c κs =
     let a = (c .before .before .before .before .before .before .before .before .before .args) in
     let e : c .before .before .before .put-be42 .last .0 ≡ bytesBe 4 (a .total) ++ bytesBe 4 (a .count) = totals-put (a .total) (a .count) _ _ _ refl (c .before .before .before .before .before .before .put-be4 .ensures) (c .before .before .before .put-be42 .ensures) in
     let n : length (c .before .before .before .put-be42 .last .0) ≡ 8 = ap length e ∙ totals-length (a .total) (a .count) in
     rw n (first-fault (a .outgoing) (c .before .before .before .before .before .before .before .before .before .pre))
-
-same-length : tie.Need-same-length
-same-length c = search needs
 
 returns : tie.Need-returns
 returns c =
@@ -47,11 +29,8 @@ pub put-first-spec : {M : Type 1} → statement M
 put-first-spec =
     tie.close
     (tie.spec
-    slice-aggregate-put-be4
-    put-be4-requires
-    slice-aggregate-put-be4-2
-    put-be4-requires-2
-    slice-aggregate-put
+    (λ c. search needs) (λ c κs. search needs) (λ c. search needs) (λ c κs. search needs)  -- slice-aggregate-put-be4, put-be4-requires, slice-aggregate-put-be4-2, put-be4-requires-2
+    (λ c. search needs)  -- slice-aggregate-put
     put-requires
-    same-length
+    (λ c. search needs)  -- same-length
     returns)

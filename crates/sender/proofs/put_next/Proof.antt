@@ -21,21 +21,9 @@ use Rattle.frame.proofs.frame_number.Reads as frame-number-reads
 use Rattle.sender.proofs.put.Reads as put-reads
 
 -- src/lib.rt:90:9
-frame-number-requires : tie.Need-frame-number-requires
-frame-number-requires c κs = search needs
-
 -- src/lib.rt:91:17
-cast-chunk : tie.Need-cast-chunk
-cast-chunk c = search needs
-
 -- src/lib.rt:92:18
-sub-start : tie.Need-sub-start
-sub-start c = search needs
-
 -- src/lib.rt:92:17
-cast-start : tie.Need-cast-start
-cast-start c = search needs
-
 -- src/lib.rt:92:17
 mul-start : tie.Need-mul-start
 mul-start c =
@@ -55,9 +43,6 @@ add-least c =
     record { fits = small-end _ _ _ (omega arith) (omega arith) (omega arith) }
 
 -- src/lib.rt:93:9
-least-requires : tie.Need-least-requires
-least-requires c κs = search needs
-
 -- src/lib.rt:94:22
 cast-put : tie.Need-cast-put
 cast-put c = omega (arith, (c .before .before .frame-number .ensures), number-byte (c .before .before .before .before .before .args .place) (c .before .before .before .before .before .args .count) (omega arith) (omega arith))
@@ -83,9 +68,6 @@ part-put-start c =
     omega (arith, (c .least .ensures))
 
 -- src/lib.rt:94:36
-part-put-end : tie.Need-part-put-end
-part-put-end c = search needs
-
 -- src/lib.rt:94:5
 put-requires : tie.Need-put-requires
 put-requires c κs =
@@ -99,9 +81,6 @@ put-requires c κs =
     rw e (next-fault o (c .before .before .before .before .before .before .before .pre .0) (c .before .before .before .before .frame-number .result) (length (chunkOf o m (a .place))) (l .0) (l .1))
 
 -- src/lib.rt:84:1
-same-length : tie.Need-same-length
-same-length c = search needs
-
 -- src/lib.rt:84:1
 returns : tie.Need-returns
 returns c =
@@ -120,17 +99,14 @@ pub put-next-spec : {M : Type 1} → statement M
 put-next-spec =
     tie.close
     (tie.spec
-    frame-number-requires
-    cast-chunk
-    sub-start
-    cast-start
+    (λ c κs. search needs) (λ c. search needs) (λ c. search needs) (λ c. search needs)  -- frame-number-requires, cast-chunk, sub-start, cast-start
     mul-start
     add-least
-    least-requires
+    (λ c κs. search needs)  -- least-requires
     cast-put
     sub-put
     part-put-start
-    part-put-end
+    (λ c. search needs)  -- part-put-end
     put-requires
-    same-length
+    (λ c. search needs)  -- same-length
     returns)

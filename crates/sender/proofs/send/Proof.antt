@@ -11,29 +11,17 @@ use borrow.Author.Needs.{needs}
 use Rattle.sender.proofs.send.Statement.{statement}
 use Rattle.sender.proofs.send.Tie as tie
 
-known-version-requires : tie.Need-known-version-requires
-known-version-requires c κs = search needs
-
 returns : tie.Need-returns
 unfolding sendOf
 returns c = rw (sym (c .before .known-version .ensures) ∙ not-true (c .before .known-version .result) (c .if1 .taken))
-
-listed-service-requires : tie.Need-listed-service-requires
-listed-service-requires c κs = search needs
 
 returns-2 : tie.Need-returns-2
 unfolding sendOf
 returns-2 c = rw ((sym (c .before .before .before .known-version .ensures) ∙ not-false (c .before .before .before .known-version .result) (c .before .before .if1 .left)), sym (c .before .listed-service .ensures) ∙ not-true (c .before .listed-service .result) (c .if2 .taken))
 
-chunk-fits-requires : tie.Need-chunk-fits-requires
-chunk-fits-requires c κs = search needs
-
 returns-3 : tie.Need-returns-3
 unfolding sendOf
 returns-3 c = rw ((sym (c .before .before .before .before .before .known-version .ensures) ∙ not-false (c .before .before .before .before .before .known-version .result) (c .before .before .before .before .if1 .left)), (sym (c .before .before .before .listed-service .ensures) ∙ not-false (c .before .before .before .listed-service .result) (c .before .before .if2 .left)), sym (c .before .chunk-fits .ensures) ∙ not-true (c .before .chunk-fits .result) (c .if3 .taken))
-
-cast-if4 : tie.Need-cast-if4
-cast-if4 c = search needs
 
 send-several-requires : tie.Need-send-several-requires
 unfolding fitsOne
@@ -41,12 +29,6 @@ send-several-requires c κs =
     let a = (c .before .before .before .before .before .before .before .before .before .before .before .args) in
     let r : Ready (a .outgoing) = record { version = (sym (c .before .before .before .before .before .before .before .before .known-version .ensures) ∙ not-false (c .before .before .before .before .before .before .before .before .known-version .result) (c .before .before .before .before .before .before .before .if1 .left)); service = (sym (c .before .before .before .before .before .before .listed-service .ensures) ∙ not-false (c .before .before .before .before .before .before .listed-service .result) (c .before .before .before .before .before .if2 .left)); chunk = (sym (c .before .before .before .before .chunk-fits .ensures) ∙ not-false (c .before .before .before .before .chunk-fits .result) (c .before .before .before .if3 .left)) } in
     (r, lt-leb _ _ (c .before .if4 .taken))
-
-same-length : tie.Need-same-length
-same-length c = search needs
-
-returns-4 : tie.Need-returns-4
-returns-4 c = search needs
 
 returns-5 : tie.Need-returns-5
 unfolding fitsOne
@@ -61,9 +43,6 @@ put-requires c κs =
     let r : Ready (a .outgoing) = record { version = (sym (c .before .before .before .before .before .before .before .before .before .known-version .ensures) ∙ not-false (c .before .before .before .before .before .before .before .before .before .known-version .result) (c .before .before .before .before .before .before .before .before .if1 .left)); service = (sym (c .before .before .before .before .before .before .before .listed-service .ensures) ∙ not-false (c .before .before .before .before .before .before .before .listed-service .result) (c .before .before .before .before .before .before .if2 .left)); chunk = (sym (c .before .before .before .before .before .chunk-fits .ensures) ∙ not-false (c .before .before .before .before .before .chunk-fits .result) (c .before .before .before .before .if3 .left)) } in
     single-fault (a .outgoing) r (length (a .message .now)) (c .before .before .if4 .left)
 
-same-length-2 : tie.Need-same-length-2
-same-length-2 c = search needs
-
 returns-6 : tie.Need-returns-6
 unfolding fitsOne
 returns-6 c =
@@ -75,17 +54,16 @@ pub send-spec : {M : Type 1} → statement M
 send-spec =
     tie.close
     (tie.spec
-    known-version-requires
+    (λ c κs. search needs)  -- known-version-requires
     returns
-    listed-service-requires
+    (λ c κs. search needs)  -- listed-service-requires
     returns-2
-    chunk-fits-requires
+    (λ c κs. search needs)  -- chunk-fits-requires
     returns-3
-    cast-if4
+    (λ c. search needs)  -- cast-if4
     send-several-requires
-    same-length
-    returns-4
+    (λ c. search needs) (λ c. search needs)  -- same-length, returns-4
     returns-5
     put-requires
-    same-length-2
+    (λ c. search needs)  -- same-length-2
     returns-6)

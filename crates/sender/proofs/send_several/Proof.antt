@@ -23,9 +23,6 @@ frame-count-requires c κs =
     let w = chunk-range (a .outgoing .version) (a .outgoing .chunk) ((c .before .before .pre .0) .chunk) in
     (w .0, several-length (a .outgoing) (a .message .now) (c .before .before .pre .1))
 
-totals-fit-requires : tie.Need-totals-fit-requires
-totals-fit-requires c κs = search needs
-
 returns : tie.Need-returns
 returns c =
     let a = (c .before .before .before .before .before .args) in
@@ -61,12 +58,6 @@ cast-put-first-2 c =
     let f : totalsFit (length m) (countOf o m) ≡ true = subst (λ (x : ℕ). totalsFit (length m) x ≡ true) n (sym (c .before .before .before .totals-fit .ensures) ∙ not-false (c .before .before .before .totals-fit .result) (c .before .before .if1 .left)) in
     omega (arith, totals-range (length m) (countOf o m) f)
 
-put-first-requires : tie.Need-put-first-requires
-put-first-requires c κs = search needs
-
-same-length : tie.Need-same-length
-same-length c = search needs
-
 returns-3 : tie.Need-returns-3
 returns-3 c =
     let a = (c .before .before .before .before .before .before .before .before .before .before .before .args) in
@@ -95,9 +86,6 @@ put-next-requires c κs =
     let t = totals-range (length m) (countOf o m) f in
     ((c .before .before .before .before .before .before .before .before .pre .0), ((n, omega arith), (omega arith, omega arith, omega arith)))
 
-same-length-2 : tie.Need-same-length-2
-same-length-2 c = search needs
-
 returns-4 : tie.Need-returns-4
 returns-4 c =
     let a = (c .before .before .before .before .before .before .before .before .before .before .before .args) in
@@ -112,15 +100,14 @@ send-several-spec =
     tie.close
     (tie.spec
     frame-count-requires
-    totals-fit-requires
+    (λ c κs. search needs)  -- totals-fit-requires
     returns
     returns-2
     cast-put-first
     cast-put-first-2
-    put-first-requires
-    same-length
+    (λ c κs. search needs) (λ c. search needs)  -- put-first-requires, same-length
     returns-3
     cast-put-next
     put-next-requires
-    same-length-2
+    (λ c. search needs)  -- same-length-2
     returns-4)

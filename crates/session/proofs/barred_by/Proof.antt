@@ -12,29 +12,17 @@ returns : tie.Need-returns
 unfolding barredBy
 returns c = rw (c .if1 .taken)
 
-version-fits-requires : tie.Need-version-fits-requires
-version-fits-requires c κs = search needs
-
 returns-2 : tie.Need-returns-2
 unfolding barredBy
 returns-2 c = rw ((sym (c .before .version-fits .ensures) ∙ not-true (c .before .version-fits .result) (c .if2 .taken)), (c .before .before .if1 .left))
-
-mtu-fits-requires : tie.Need-mtu-fits-requires
-mtu-fits-requires c κs = search needs
 
 returns-3 : tie.Need-returns-3
 unfolding barredBy
 returns-3 c = rw ((sym (c .before .mtu-fits .ensures) ∙ not-true (c .before .mtu-fits .result) (c .if3 .taken)), (sym (c .before .before .before .version-fits .ensures) ∙ not-false (c .before .before .before .version-fits .result) (c .before .before .if2 .left)), (c .before .before .before .before .if1 .left))
 
-service-fits-requires : tie.Need-service-fits-requires
-service-fits-requires c κs = search needs
-
 returns-4 : tie.Need-returns-4
 unfolding barredBy
 returns-4 c = rw ((sym (c .before .service-fits .ensures) ∙ not-true (c .before .service-fits .result) (c .if4 .taken)), (sym (c .before .before .before .mtu-fits .ensures) ∙ not-false (c .before .before .before .mtu-fits .result) (c .before .before .if3 .left)), (sym (c .before .before .before .before .before .version-fits .ensures) ∙ not-false (c .before .before .before .before .before .version-fits .result) (c .before .before .before .before .if2 .left)), (c .before .before .before .before .before .before .if1 .left))
-
-command-fits-requires : tie.Need-command-fits-requires
-command-fits-requires c κs = search needs
 
 returns-5 : tie.Need-returns-5
 unfolding barredBy
@@ -49,12 +37,12 @@ barred-by-spec =
     tie.close
     (tie.spec
     returns
-    version-fits-requires
+    (λ c κs. search needs)  -- version-fits-requires
     returns-2
-    mtu-fits-requires
+    (λ c κs. search needs)  -- mtu-fits-requires
     returns-3
-    service-fits-requires
+    (λ c κs. search needs)  -- service-fits-requires
     returns-4
-    command-fits-requires
+    (λ c κs. search needs)  -- command-fits-requires
     returns-5
     returns-6)

@@ -19,12 +19,16 @@ returns-3 : tie.Need-returns-3
 unfolding commandFits
 returns-3 c = rw (eq-eqb _ _ (c .before .before .if1 .left), ne-eqb _ _ (c .before .if2 .left), eq-eqb _ _ (c .if3 .taken))
 
-beats-requires : tie.Need-beats-requires
-beats-requires c κs = search needs
-
 returns-4 : tie.Need-returns-4
 unfolding commandFits
 returns-4 c = rw (eq-eqb _ _ (c .before .before .before .if1 .left), ne-eqb _ _ (c .before .before .if2 .left), ne-eqb _ _ (c .before .if3 .left), ← (c .beats .ensures))
 
 pub command-fits-spec : {M : Type 1} → statement M
-command-fits-spec = tie.close (tie.spec returns returns-2 returns-3 beats-requires returns-4)
+command-fits-spec =
+    tie.close
+    (tie.spec
+    returns
+    returns-2
+    returns-3
+    (λ c κs. search needs)  -- beats-requires
+    returns-4)

@@ -9,25 +9,13 @@ use borrow.Author.Needs.{needs}
 use Rattle.session.proofs.content.Statement.{statement}
 use Rattle.session.proofs.content.Tie as tie
 
-single-requires : tie.Need-single-requires
-single-requires c κs = search needs
-
 returns : tie.Need-returns
 unfolding contentOf
 returns c = rw (eq-eqb _ _ (c .before .if1 .taken)) (c .single .ensures)
 
-first-requires : tie.Need-first-requires
-first-requires c κs = search needs
-
 returns-2 : tie.Need-returns-2
 unfolding contentOf
 returns-2 c = rw (ne-eqb _ _ (c .before .before .before .if1 .left), eq-eqb _ _ (c .before .if2 .taken)) (c .first .ensures)
-
-message-of-requires : tie.Need-message-of-requires
-message-of-requires c κs = search needs
-
-next-for-requires : tie.Need-next-for-requires
-next-for-requires c κs = search needs
 
 returns-3 : tie.Need-returns-3
 unfolding contentOf
@@ -37,10 +25,9 @@ pub content-spec : {M : Type 1} → statement M
 content-spec =
     tie.close
     (tie.spec
-    single-requires
+    (λ c κs. search needs)  -- single-requires
     returns
-    first-requires
+    (λ c κs. search needs)  -- first-requires
     returns-2
-    message-of-requires
-    next-for-requires
+    (λ c κs. search needs) (λ c κs. search needs)  -- message-of-requires, next-for-requires
     returns-3)

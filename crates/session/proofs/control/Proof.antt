@@ -7,15 +7,9 @@ use borrow.Author.Needs.{needs}
 use Rattle.session.proofs.control.Statement.{statement}
 use Rattle.session.proofs.control.Tie as tie
 
-start-requires : tie.Need-start-requires
-start-requires c κs = search needs
-
 returns : tie.Need-returns
 unfolding controlOf
 returns c = rw (eq-eqb _ _ (c .before .if1 .taken)) (c .start .ensures)
-
-end-requires : tie.Need-end-requires
-end-requires c κs = search needs
 
 returns-2 : tie.Need-returns-2
 unfolding controlOf
@@ -31,4 +25,11 @@ returns-4 c = rw (ne-eqb _ _ (c .before .before .if1 .left), ne-eqb _ _ (c .befo
 
 pub control-spec : {M : Type 1} → statement M
 control-spec =
-    tie.close (tie.spec start-requires returns end-requires returns-2 returns-3 returns-4)
+    tie.close
+    (tie.spec
+    (λ c κs. search needs)  -- start-requires
+    returns
+    (λ c κs. search needs)  -- end-requires
+    returns-2
+    returns-3
+    returns-4)

@@ -10,15 +10,9 @@ use borrow.Author.Needs.{needs}
 use Rattle.session.proofs.end.Statement.{statement}
 use Rattle.session.proofs.end.Tie as tie
 
-is-endable-requires : tie.Need-is-endable-requires
-is-endable-requires c κs = search needs
-
 returns : tie.Need-returns
 unfolding endOf
 returns c = rw (sym (c .before .is-endable .ensures) ∙ not-true (c .before .is-endable .result) (c .if1 .taken))
-
-hash-of-requires : tie.Need-hash-of-requires
-hash-of-requires c κs = search needs
 
 returns-2 : tie.Need-returns-2
 unfolding endOf
@@ -34,4 +28,11 @@ returns-4 c = rw ((sym (c .before .before .before .before .before .before .befor
 
 pub end-spec : {M : Type 1} → statement M
 end-spec =
-    tie.close (tie.spec is-endable-requires returns hash-of-requires returns-2 returns-3 returns-4)
+    tie.close
+    (tie.spec
+    (λ c κs. search needs)  -- is-endable-requires
+    returns
+    (λ c κs. search needs)  -- hash-of-requires
+    returns-2
+    returns-3
+    returns-4)

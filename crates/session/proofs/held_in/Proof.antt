@@ -19,24 +19,6 @@ abbrev μ-loop : tie.MeasureT-loop
 loop-holds : tie.Need-loop-holds Inv-loop μ-loop
 loop-holds c = (omega arith, omega arith, omega arith)
 
-mul-message : tie.Need-mul-message Inv-loop μ-loop
-mul-message c = search needs
-
-array-copy-out-message : tie.Need-array-copy-out-message Inv-loop μ-loop
-array-copy-out-message c = search needs
-
-need-of-message-requires : tie.Need-need-of-message-requires Inv-loop μ-loop
-need-of-message-requires c κs = search needs
-
-add-sum : tie.Need-add-sum Inv-loop μ-loop
-add-sum c = search needs
-
-add-place : tie.Need-add-place Inv-loop μ-loop
-add-place c = search needs
-
-loop-less : tie.Need-loop-less Inv-loop μ-loop
-loop-less c = search needs
-
 loop-again : tie.Need-loop-again Inv-loop μ-loop
 loop-again c =
     let l = (c .before .before .before .loop) in
@@ -58,11 +40,7 @@ held-in-spec =
     Inv-loop
     μ-loop
     loop-holds
-    mul-message
-    array-copy-out-message
-    need-of-message-requires
-    add-sum
-    add-place
-    loop-less
+    (λ c. search needs) (λ c. search needs) (λ c κs. search needs) (λ c. search needs)  -- mul-message, array-copy-out-message, need-of-message-requires, add-sum
+    (λ c. search needs) (λ c. search needs)  -- add-place, loop-less
     loop-again
     returns)

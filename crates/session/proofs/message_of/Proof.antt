@@ -7,17 +7,12 @@ use borrow.Author.Needs.{needs}
 use Rattle.session.proofs.message_of.Statement.{statement}
 use Rattle.session.proofs.message_of.Tie as tie
 
-place-of-requires : tie.Need-place-of-requires
-place-of-requires c κs = search needs
-
-mul-result : tie.Need-mul-result
-mul-result c = search needs
-
-element-copy-out-result : tie.Need-element-copy-out-result
-element-copy-out-result c = search needs
-
 returns : tie.Need-returns
 returns c = ap (λ (n : ℕ). messageAt (c .before .before .args .t1) n) (c .before .place-of .ensures .0)
 
 pub message-of-spec : {M : Type 1} → statement M
-message-of-spec = tie.close (tie.spec place-of-requires mul-result element-copy-out-result returns)
+message-of-spec =
+    tie.close
+    (tie.spec
+    (λ c κs. search needs) (λ c. search needs) (λ c. search needs)  -- place-of-requires, mul-result, element-copy-out-result
+    returns)

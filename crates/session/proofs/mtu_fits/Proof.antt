@@ -6,9 +6,6 @@ use borrow.Author.Needs.{needs}
 use Rattle.session.proofs.mtu_fits.Statement.{statement}
 use Rattle.session.proofs.mtu_fits.Tie as tie
 
-less-requires : tie.Need-less-requires
-less-requires c κs = search needs
-
 returns : tie.Need-returns
 returns c = mtu-judged _ _ _ (omega arith) _ (omega arith)
 
@@ -16,4 +13,9 @@ returns-2 : tie.Need-returns-2
 returns-2 c = mtu-passed _ _ _ (λ z. omega arith)
 
 pub mtu-fits-spec : {M : Type 1} → statement M
-mtu-fits-spec = tie.close (tie.spec less-requires returns returns-2)
+mtu-fits-spec =
+    tie.close
+    (tie.spec
+    (λ c κs. search needs)  -- less-requires
+    returns
+    returns-2)

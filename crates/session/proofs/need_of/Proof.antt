@@ -8,12 +8,13 @@ use borrow.Author.Needs.{needs}
 use Rattle.session.proofs.need_of.Statement.{statement}
 use Rattle.session.proofs.need_of.Tie as tie
 
-add-result : tie.Need-add-result
-add-result c = search needs
-
 returns : tie.Need-returns
 unfolding needOf
 returns c = (refl, omega arith)
 
 pub need-of-spec : {M : Type 1} → statement M
-need-of-spec = tie.close (tie.spec add-result returns)
+need-of-spec =
+    tie.close
+    (tie.spec
+    (λ c. search needs)  -- add-result
+    returns)

@@ -7,9 +7,6 @@ use borrow.Author.Needs.{needs}
 use Rattle.session.proofs.need_of_message.Statement.{statement}
 use Rattle.session.proofs.need_of_message.Tie as tie
 
-need-of-requires : tie.Need-need-of-requires
-need-of-requires c κs = search needs
-
 returns : tie.Need-returns
 unfolding heldBy
 returns c = (rw (c .before .if1 .taken) ((c .need-of .ensures .0)), (c .need-of .ensures .1))
@@ -19,4 +16,9 @@ unfolding heldBy
 returns-2 c = (rw (c .if1 .left), omega arith)
 
 pub need-of-message-spec : {M : Type 1} → statement M
-need-of-message-spec = tie.close (tie.spec need-of-requires returns returns-2)
+need-of-message-spec =
+    tie.close
+    (tie.spec
+    (λ c κs. search needs)  -- need-of-requires
+    returns
+    returns-2)

@@ -16,18 +16,9 @@ returns-2 : tie.Need-returns-2
 unfolding nextFor
 returns-2 c = rw (ne-eqb _ _ (c .if2 .taken), not-false (c .before .before .before .before .before .args .message .live) (c .before .before .before .if1 .left))
 
-cast-if3 : tie.Need-cast-if3
-cast-if3 c = search needs
-
-due-number-requires : tie.Need-due-number-requires
-due-number-requires c κs = search needs
-
 returns-3 : tie.Need-returns-3
 unfolding nextFor
 returns-3 c = rw (← (c .before .due-number .ensures), ne-eqb _ _ (c .if3 .taken), eq-eqb _ _ (c .before .before .before .if2 .left), not-false (c .before .before .before .before .before .before .before .before .args .message .live) (c .before .before .before .before .before .before .if1 .left))
-
-sizes-fit-requires : tie.Need-sizes-fit-requires
-sizes-fit-requires c κs = search needs
 
 returns-4 : tie.Need-returns-4
 unfolding nextFor
@@ -36,9 +27,6 @@ returns-4 c = rw ((sym (c .before .sizes-fit .ensures) ∙ not-true (c .before .
 returns-5 : tie.Need-returns-5
 unfolding nextFor
 returns-5 c = rw ((sym (c .before .before .before .sizes-fit .ensures) ∙ not-false (c .before .before .before .sizes-fit .result) (c .before .before .if4 .left)), ne-eqb _ _ (c .if5 .taken), ← (c .before .before .before .before .before .due-number .ensures), eq-eqb _ _ (c .before .before .before .before .if3 .left), eq-eqb _ _ (c .before .before .before .before .before .before .before .if2 .left), not-false (c .before .before .before .before .before .before .before .before .before .before .before .before .args .message .live) (c .before .before .before .before .before .before .before .before .before .before .if1 .left))
-
-cast-if6 : tie.Need-cast-if6
-cast-if6 c = search needs
 
 returns-6 : tie.Need-returns-6
 unfolding nextFor
@@ -54,12 +42,11 @@ next-for-spec =
     (tie.spec
     returns
     returns-2
-    cast-if3
-    due-number-requires
+    (λ c. search needs) (λ c κs. search needs)  -- cast-if3, due-number-requires
     returns-3
-    sizes-fit-requires
+    (λ c κs. search needs)  -- sizes-fit-requires
     returns-4
     returns-5
-    cast-if6
+    (λ c. search needs)  -- cast-if6
     returns-6
     returns-7)

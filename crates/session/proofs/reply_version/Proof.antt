@@ -7,9 +7,6 @@ use borrow.Author.Needs.{needs}
 use Rattle.session.proofs.reply_version.Statement.{statement}
 use Rattle.session.proofs.reply_version.Tie as tie
 
-least-byte-requires : tie.Need-least-byte-requires
-least-byte-requires c κs = search needs
-
 returns : tie.Need-returns
 unfolding replyVersion
 returns c = rw (eq-eqb _ _ (c .before .if1 .taken)) (c .least-byte .ensures)
@@ -19,4 +16,9 @@ unfolding replyVersion
 returns-2 c = rw (ne-eqb _ _ (c .if1 .left))
 
 pub reply-version-spec : {M : Type 1} → statement M
-reply-version-spec = tie.close (tie.spec least-byte-requires returns returns-2)
+reply-version-spec =
+    tie.close
+    (tie.spec
+    (λ c κs. search needs)  -- least-byte-requires
+    returns
+    returns-2)

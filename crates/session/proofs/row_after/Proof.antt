@@ -8,84 +8,6 @@ use borrow.Author.Needs.{needs}
 use Rattle.session.proofs.row_after.Statement.{statement}
 use Rattle.session.proofs.row_after.Tie as tie
 
-place-of-requires : tie.Need-place-of-requires
-place-of-requires c κs = search needs
-
-enum-told : tie.Need-enum-told
-enum-told c = search needs
-
-enum-told-2 : tie.Need-enum-told-2
-enum-told-2 c = search needs
-
-dropped-requires : tie.Need-dropped-requires
-dropped-requires c κs = search needs
-
-enum-told-3 : tie.Need-enum-told-3
-enum-told-3 c = search needs
-
-enum-told-4 : tie.Need-enum-told-4
-enum-told-4 c = search needs
-
-enum-told-5 : tie.Need-enum-told-5
-enum-told-5 c = search needs
-
-started-requires : tie.Need-started-requires
-started-requires c κs = search needs
-
-acked-requires : tie.Need-acked-requires
-acked-requires c κs = search needs
-
-enum-told-6 : tie.Need-enum-told-6
-enum-told-6 c = search needs
-
-enum-told-7 : tie.Need-enum-told-7
-enum-told-7 c = search needs
-
-dropped-requires-2 : tie.Need-dropped-requires-2
-dropped-requires-2 c κs = search needs
-
-stopped-requires : tie.Need-stopped-requires
-stopped-requires c κs = search needs
-
-acked-requires-2 : tie.Need-acked-requires-2
-acked-requires-2 c κs = search needs
-
-enum-told-8 : tie.Need-enum-told-8
-enum-told-8 c = search needs
-
-free-requires : tie.Need-free-requires
-free-requires c κs = search needs
-
-enum-told-9 : tie.Need-enum-told-9
-enum-told-9 c = search needs
-
-enum-known-act : tie.Need-enum-known-act
-enum-known-act c = search needs
-
-admitted-requires : tie.Need-admitted-requires
-admitted-requires c κs = search needs
-
-settled-requires : tie.Need-settled-requires
-settled-requires c κs = search needs
-
-enum-told-10 : tie.Need-enum-told-10
-enum-told-10 c = search needs
-
-fed-requires : tie.Need-fed-requires
-fed-requires c κs = search needs
-
-enum-told-11 : tie.Need-enum-told-11
-enum-told-11 c = search needs
-
-dropped-requires-3 : tie.Need-dropped-requires-3
-dropped-requires-3 c κs = search needs
-
-enum-told-12 : tie.Need-enum-told-12
-enum-told-12 c = search needs
-
-settled-requires-2 : tie.Need-settled-requires-2
-settled-requires-2 c κs = search needs
-
 returns : tie.Need-returns
 returns c = rw (c .enum-told .given .1)
 
@@ -147,32 +69,13 @@ pub row-after-spec : {M : Type 1} → statement M
 row-after-spec =
     tie.close
     (tie.spec
-    place-of-requires
-    enum-told
-    enum-told-2
-    dropped-requires
-    enum-told-3
-    enum-told-4
-    enum-told-5
-    started-requires
-    acked-requires
-    enum-told-6
-    enum-told-7
-    dropped-requires-2
-    stopped-requires
-    acked-requires-2
-    enum-told-8
-    free-requires
-    enum-told-9
-    enum-known-act
-    admitted-requires
-    settled-requires
-    enum-told-10
-    fed-requires
-    enum-told-11
-    dropped-requires-3
-    enum-told-12
-    settled-requires-2
+    (λ c κs. search needs) (λ c. search needs) (λ c. search needs) (λ c κs. search needs)  -- place-of-requires, enum-told, enum-told-2, dropped-requires
+    (λ c. search needs) (λ c. search needs) (λ c. search needs) (λ c κs. search needs)  -- enum-told-3, enum-told-4, enum-told-5, started-requires
+    (λ c κs. search needs) (λ c. search needs) (λ c. search needs) (λ c κs. search needs)  -- acked-requires, enum-told-6, enum-told-7, dropped-requires-2
+    (λ c κs. search needs) (λ c κs. search needs) (λ c. search needs) (λ c κs. search needs)  -- stopped-requires, acked-requires-2, enum-told-8, free-requires
+    (λ c. search needs) (λ c. search needs) (λ c κs. search needs) (λ c κs. search needs)  -- enum-told-9, enum-known-act, admitted-requires, settled-requires
+    (λ c. search needs) (λ c κs. search needs) (λ c. search needs) (λ c κs. search needs)  -- enum-told-10, fed-requires, enum-told-11, dropped-requires-3
+    (λ c. search needs) (λ c κs. search needs)  -- enum-told-12, settled-requires-2
     returns
     returns-2
     returns-3

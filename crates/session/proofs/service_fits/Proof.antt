@@ -11,12 +11,14 @@ returns : tie.Need-returns
 unfolding serviceFits
 returns c = rw (eq-eqb _ _ (c .if1 .taken))
 
-runs-requires : tie.Need-runs-requires
-runs-requires c κs = search needs
-
 returns-2 : tie.Need-returns-2
 unfolding serviceFits
 returns-2 c = rw (ne-eqb _ _ (c .before .if1 .left)) (c .runs .ensures)
 
 pub service-fits-spec : {M : Type 1} → statement M
-service-fits-spec = tie.close (tie.spec returns runs-requires returns-2)
+service-fits-spec =
+    tie.close
+    (tie.spec
+    returns
+    (λ c κs. search needs)  -- runs-requires
+    returns-2)

@@ -7,9 +7,6 @@ use borrow.Author.Needs.{needs}
 use Rattle.session.proofs.single.Statement.{statement}
 use Rattle.session.proofs.single.Tie as tie
 
-cast-if1 : tie.Need-cast-if1
-cast-if1 c = search needs
-
 returns : tie.Need-returns
 unfolding singleOf
 returns c = rw (lt-leb _ _ (c .if1 .taken))
@@ -19,4 +16,9 @@ unfolding singleOf
 returns-2 c = rw (le-leb _ _ (c .if1 .left))
 
 pub single-spec : {M : Type 1} → statement M
-single-spec = tie.close (tie.spec cast-if1 returns returns-2)
+single-spec =
+    tie.close
+    (tie.spec
+    (λ c. search needs)  -- cast-if1
+    returns
+    returns-2)

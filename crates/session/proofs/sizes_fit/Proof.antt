@@ -11,9 +11,6 @@ returns : tie.Need-returns
 unfolding sized
 returns c = rw (lt-leb _ _ (c .if1 .taken))
 
-less-requires : tie.Need-less-requires
-less-requires c κs = search needs
-
 returns-2 : tie.Need-returns-2
 unfolding sized
 returns-2 c = rw (le-leb _ _ (c .before .before .before .if1 .left), ← (c .before .less .ensures), lt-leb _ _ (c .if2 .taken))
@@ -27,4 +24,11 @@ unfolding sized
 returns-4 c = rw (le-leb _ _ (c .before .before .before .before .before .if1 .left), ← (c .before .before .before .less .ensures), le-leb _ _ (c .before .before .if2 .left), ne-eqb _ _ (c .if3 .left))
 
 pub sizes-fit-spec : {M : Type 1} → statement M
-sizes-fit-spec = tie.close (tie.spec returns less-requires returns-2 returns-3 returns-4)
+sizes-fit-spec =
+    tie.close
+    (tie.spec
+    returns
+    (λ c κs. search needs)  -- less-requires
+    returns-2
+    returns-3
+    returns-4)

@@ -6,9 +6,6 @@ use borrow.Author.Needs.{needs}
 use Rattle.session.proofs.start.Statement.{statement}
 use Rattle.session.proofs.start.Tie as tie
 
-is-startable-requires : tie.Need-is-startable-requires
-is-startable-requires c κs = search needs
-
 returns : tie.Need-returns
 unfolding startOf
 returns c = rw (← (c .before .before .before .is-startable .ensures), (c .if1 .taken))
@@ -18,4 +15,9 @@ unfolding startOf
 returns-2 c = rw (← (c .before .before .before .is-startable .ensures), (c .if1 .left))
 
 pub start-spec : {M : Type 1} → statement M
-start-spec = tie.close (tie.spec is-startable-requires returns returns-2)
+start-spec =
+    tie.close
+    (tie.spec
+    (λ c κs. search needs)  -- is-startable-requires
+    returns
+    returns-2)

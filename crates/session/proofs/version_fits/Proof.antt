@@ -7,9 +7,6 @@ use borrow.Author.Needs.{needs}
 use Rattle.session.proofs.version_fits.Statement.{statement}
 use Rattle.session.proofs.version_fits.Tie as tie
 
-least-byte-requires : tie.Need-least-byte-requires
-least-byte-requires c κs = search needs
-
 returns : tie.Need-returns
 unfolding versionFits
 returns c = rw (eq-eqb _ _ (c .before .if1 .taken), ← (c .least-byte .ensures))
@@ -19,4 +16,9 @@ unfolding versionFits
 returns-2 c = rw (ne-eqb _ _ (c .before .if1 .left))
 
 pub version-fits-spec : {M : Type 1} → statement M
-version-fits-spec = tie.close (tie.spec least-byte-requires returns returns-2)
+version-fits-spec =
+    tie.close
+    (tie.spec
+    (λ c κs. search needs)  -- least-byte-requires
+    returns
+    returns-2)

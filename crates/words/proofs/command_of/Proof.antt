@@ -14,36 +14,9 @@ use borrow.Author.Needs.{needs}
 use Rattle.words.proofs.command_of.Statement.{statement}
 use Rattle.words.proofs.command_of.Tie as tie
 
-is-silent-requires : tie.Need-is-silent-requires
-is-silent-requires c κs = search needs
-
-bare-requires : tie.Need-bare-requires
-bare-requires c κs = search needs
-
 returns : tie.Need-returns
 unfolding commandOf
 returns c = rw (sym (c .before .before .is-silent .ensures) ∙ (c .before .if1 .taken)) (ap (λ (k : Command). leaving k (c .before .before .before .before .before .args .content .now)) (c .bare .ensures))
-
-find-requires : tie.Need-find-requires
-find-requires c κs = search needs
-
-front-requires : tie.Need-front-requires
-front-requires c κs = search needs
-
-form-of-requires : tie.Need-form-of-requires
-form-of-requires c κs = search needs
-
-numbers-at-requires : tie.Need-numbers-at-requires
-numbers-at-requires c κs = search needs
-
-last-word-requires : tie.Need-last-word-requires
-last-word-requires c κs = search needs
-
-whole-requires : tie.Need-whole-requires
-whole-requires c κs = search needs
-
-same-length : tie.Need-same-length
-same-length c = search needs
 
 returns-2 : tie.Need-returns-2
 unfolding commandOf
@@ -65,14 +38,8 @@ pub command-of-spec : {M : Type 1} → statement M
 command-of-spec =
     tie.close
     (tie.spec
-    is-silent-requires
-    bare-requires
+    (λ c κs. search needs) (λ c κs. search needs)  -- is-silent-requires, bare-requires
     returns
-    find-requires
-    front-requires
-    form-of-requires
-    numbers-at-requires
-    last-word-requires
-    whole-requires
-    same-length
+    (λ c κs. search needs) (λ c κs. search needs) (λ c κs. search needs) (λ c κs. search needs)  -- find-requires, front-requires, form-of-requires, numbers-at-requires
+    (λ c κs. search needs) (λ c κs. search needs) (λ c. search needs)  -- last-word-requires, whole-requires, same-length
     returns-2)

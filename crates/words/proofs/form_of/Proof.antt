@@ -6,54 +6,21 @@ use borrow.Author.Needs.{needs}
 use Rattle.words.proofs.form_of.Statement.{statement}
 use Rattle.words.proofs.form_of.Tie as tie
 
-slice-aggregate-is : tie.Need-slice-aggregate-is
-slice-aggregate-is c = search needs
-
-is-requires : tie.Need-is-requires
-is-requires c κs = search needs
-
-plain-requires : tie.Need-plain-requires
-plain-requires c κs = search needs
-
 returns : tie.Need-returns
 unfolding formOf
 returns c = rw (sym (c .before .before .is .ensures) ∙ (c .before .if1 .taken)) (c .plain .ensures)
-
-slice-aggregate-is-2 : tie.Need-slice-aggregate-is-2
-slice-aggregate-is-2 c = search needs
-
-is-requires-2 : tie.Need-is-requires-2
-is-requires-2 c κs = search needs
 
 returns-2 : tie.Need-returns-2
 unfolding formOf
 returns-2 c = rw (sym (c .before .before .before .before .is .ensures) ∙ (c .before .before .before .if1 .left), sym (c .before .is2 .ensures) ∙ (c .if2 .taken))
 
-slice-aggregate-is-3 : tie.Need-slice-aggregate-is-3
-slice-aggregate-is-3 c = search needs
-
-is-requires-3 : tie.Need-is-requires-3
-is-requires-3 c κs = search needs
-
 returns-3 : tie.Need-returns-3
 unfolding formOf
 returns-3 c = rw (sym (c .before .before .before .before .before .before .before .is .ensures) ∙ (c .before .before .before .before .before .before .if1 .left), sym (c .before .before .before .before .is2 .ensures) ∙ (c .before .before .before .if2 .left), sym (c .before .is3 .ensures) ∙ (c .if3 .taken))
 
-slice-aggregate-is-4 : tie.Need-slice-aggregate-is-4
-slice-aggregate-is-4 c = search needs
-
-is-requires-4 : tie.Need-is-requires-4
-is-requires-4 c κs = search needs
-
-plain-requires-2 : tie.Need-plain-requires-2
-plain-requires-2 c κs = search needs
-
 returns-4 : tie.Need-returns-4
 unfolding formOf
 returns-4 c = rw (sym (c .before .before .before .before .before .before .before .before .before .before .before .is .ensures) ∙ (c .before .before .before .before .before .before .before .before .before .before .if1 .left), sym (c .before .before .before .before .before .before .before .before .is2 .ensures) ∙ (c .before .before .before .before .before .before .before .if2 .left), sym (c .before .before .before .before .before .is3 .ensures) ∙ (c .before .before .before .before .if3 .left), sym (c .before .before .is4 .ensures) ∙ (c .before .if4 .taken)) (c .plain2 .ensures)
-
-link-form-requires : tie.Need-link-form-requires
-link-form-requires c κs = search needs
 
 returns-5 : tie.Need-returns-5
 unfolding formOf
@@ -63,19 +30,13 @@ pub form-of-spec : {M : Type 1} → statement M
 form-of-spec =
     tie.close
     (tie.spec
-    slice-aggregate-is
-    is-requires
-    plain-requires
+    (λ c. search needs) (λ c κs. search needs) (λ c κs. search needs)  -- slice-aggregate-is, is-requires, plain-requires
     returns
-    slice-aggregate-is-2
-    is-requires-2
+    (λ c. search needs) (λ c κs. search needs)  -- slice-aggregate-is-2, is-requires-2
     returns-2
-    slice-aggregate-is-3
-    is-requires-3
+    (λ c. search needs) (λ c κs. search needs)  -- slice-aggregate-is-3, is-requires-3
     returns-3
-    slice-aggregate-is-4
-    is-requires-4
-    plain-requires-2
+    (λ c. search needs) (λ c κs. search needs) (λ c κs. search needs)  -- slice-aggregate-is-4, is-requires-4, plain-requires-2
     returns-4
-    link-form-requires
+    (λ c κs. search needs)  -- link-form-requires
     returns-5)

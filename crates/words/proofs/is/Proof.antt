@@ -5,11 +5,12 @@ use borrow.Author.Needs.{needs}
 use Rattle.words.proofs.is.Statement.{statement}
 use Rattle.words.proofs.is.Tie as tie
 
-same-requires : tie.Need-same-requires
-same-requires c κs = search needs
-
 returns : tie.Need-returns
 returns c = test-is _ _ _ (c .same .ensures .0) (c .same .ensures .1)
 
 pub is-spec : {M : Type 1} → statement M
-is-spec = tie.close (tie.spec same-requires returns)
+is-spec =
+    tie.close
+    (tie.spec
+    (λ c κs. search needs)  -- same-requires
+    returns)

@@ -9,11 +9,13 @@ use Rattle.words.proofs.is_silent.Tie as tie
 returns : tie.Need-returns
 returns c = rw (eq-eqb (length (c .before .args .line .now)) 0 (c .if1 .taken))
 
-shared-slice-read-result : tie.Need-shared-slice-read-result
-shared-slice-read-result c = search needs
-
 returns-2 : tie.Need-returns-2
 returns-2 c = rw (ne-eqb (length (c .before .before .args .line .now)) 0 (c .before .if1 .left))
 
 pub is-silent-spec : {M : Type 1} → statement M
-is-silent-spec = tie.close (tie.spec returns shared-slice-read-result returns-2)
+is-silent-spec =
+    tie.close
+    (tie.spec
+    returns
+    (λ c. search needs)  -- shared-slice-read-result
+    returns-2)

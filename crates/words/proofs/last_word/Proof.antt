@@ -13,18 +13,14 @@ returns : tie.Need-returns
 unfolding lastOf
 returns c = rw (eq-eqb (c .before .before .before .args .kind) 5 (c .if1 .taken))
 
-between-requires : tie.Need-between-requires
-between-requires c κs = search needs
-
-hex-requires : tie.Need-hex-requires
-hex-requires c κs = search needs
-
-same-length : tie.Need-same-length
-same-length c = search needs
-
 returns-2 : tie.Need-returns-2
 unfolding lastOf
 returns-2 c = rw (ne-eqb (c .before .before .before .before .before .before .before .before .args .kind) 5 (c .before .before .before .before .before .if1 .left)) ((c .before .before .hex .ensures) ∙ ap (λ (w : List ℕ). hexWord w (c .before .before .before .before .before .before .before .before .args .content .now)) (c .before .before .before .before .between .ensures))
 
 pub last-word-spec : {M : Type 1} → statement M
-last-word-spec = tie.close (tie.spec returns between-requires hex-requires same-length returns-2)
+last-word-spec =
+    tie.close
+    (tie.spec
+    returns
+    (λ c κs. search needs) (λ c κs. search needs) (λ c. search needs)  -- between-requires, hex-requires, same-length
+    returns-2)

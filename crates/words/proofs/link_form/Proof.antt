@@ -6,28 +6,13 @@ use borrow.Author.Needs.{needs}
 use Rattle.words.proofs.link_form.Statement.{statement}
 use Rattle.words.proofs.link_form.Tie as tie
 
-slice-aggregate-is : tie.Need-slice-aggregate-is
-slice-aggregate-is c = search needs
-
-is-requires : tie.Need-is-requires
-is-requires c κs = search needs
-
 returns : tie.Need-returns
 unfolding linkFormOf
 returns c = rw (sym (c .before .is .ensures) ∙ (c .if1 .taken))
 
-slice-aggregate-is-2 : tie.Need-slice-aggregate-is-2
-slice-aggregate-is-2 c = search needs
-
-is-requires-2 : tie.Need-is-requires-2
-is-requires-2 c κs = search needs
-
 returns-2 : tie.Need-returns-2
 unfolding linkFormOf
 returns-2 c = rw (sym (c .before .before .before .before .is .ensures) ∙ (c .before .before .before .if1 .left), sym (c .before .is2 .ensures) ∙ (c .if2 .taken))
-
-plain-requires : tie.Need-plain-requires
-plain-requires c κs = search needs
 
 returns-3 : tie.Need-returns-3
 unfolding linkFormOf
@@ -37,11 +22,9 @@ pub link-form-spec : {M : Type 1} → statement M
 link-form-spec =
     tie.close
     (tie.spec
-    slice-aggregate-is
-    is-requires
+    (λ c. search needs) (λ c κs. search needs)  -- slice-aggregate-is, is-requires
     returns
-    slice-aggregate-is-2
-    is-requires-2
+    (λ c. search needs) (λ c κs. search needs)  -- slice-aggregate-is-2, is-requires-2
     returns-2
-    plain-requires
+    (λ c κs. search needs)  -- plain-requires
     returns-3)

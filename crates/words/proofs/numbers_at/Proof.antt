@@ -19,32 +19,8 @@ Inv-loop line space count most values₀ good₀ lent₀ end₀ i₀ values good
 abbrev μ-loop : tie.MeasureT-loop
 μ-loop line space count most values₀ good₀ lent₀ end₀ i₀ values good lent end i = count - i
 
-least-requires : tie.Need-least-requires Inv-loop μ-loop
-least-requires c κs = search needs
-
 loop-holds : tie.Need-loop-holds Inv-loop μ-loop
 loop-holds c = (omega arith, refl, search needs, refl)
-
-mul-word-at : tie.Need-mul-word-at Inv-loop μ-loop
-mul-word-at c = search needs
-
-array-read-word-at : tie.Need-array-read-word-at Inv-loop μ-loop
-array-read-word-at c = search needs
-
-word-at-requires : tie.Need-word-at-requires Inv-loop μ-loop
-word-at-requires c κs = search needs
-
-mul-values : tie.Need-mul-values Inv-loop μ-loop
-mul-values c = search needs
-
-array-write-values : tie.Need-array-write-values Inv-loop μ-loop
-array-write-values c = search needs
-
-add-i : tie.Need-add-i Inv-loop μ-loop
-add-i c = search needs
-
-loop-less : tie.Need-loop-less Inv-loop μ-loop
-loop-less c = search needs
 
 loop-again : tie.Need-loop-again Inv-loop μ-loop
 loop-again c = let a = c .before .before .before .before .before .before .before .args in
@@ -72,14 +48,9 @@ numbers-at-spec =
     (tie.spec
     Inv-loop
     μ-loop
-    least-requires
+    (λ c κs. search needs)  -- least-requires
     loop-holds
-    mul-word-at
-    array-read-word-at
-    word-at-requires
-    mul-values
-    array-write-values
-    add-i
-    loop-less
+    (λ c. search needs) (λ c. search needs) (λ c κs. search needs) (λ c. search needs)  -- mul-word-at, array-read-word-at, word-at-requires, mul-values
+    (λ c. search needs) (λ c. search needs) (λ c. search needs)  -- array-write-values, add-i, loop-less
     loop-again
     returns)

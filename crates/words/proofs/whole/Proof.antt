@@ -7,11 +7,13 @@ use Rattle.words.proofs.whole.Tie as tie
 returns : tie.Need-returns
 returns c = rw (c .before .if1 .taken)
 
-bare-requires : tie.Need-bare-requires
-bare-requires c κs = search needs
-
 returns-2 : tie.Need-returns-2
 returns-2 c = rw (c .before .if1 .left) (c .bare .ensures)
 
 pub whole-spec : {M : Type 1} → statement M
-whole-spec = tie.close (tie.spec returns bare-requires returns-2)
+whole-spec =
+    tie.close
+    (tie.spec
+    returns
+    (λ c κs. search needs)  -- bare-requires
+    returns-2)

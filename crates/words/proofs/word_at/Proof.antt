@@ -9,18 +9,13 @@ use borrow.Author.Needs.{needs}
 use Rattle.words.proofs.word_at.Statement.{statement}
 use Rattle.words.proofs.word_at.Tie as tie
 
-word-end-requires : tie.Need-word-end-requires
-word-end-requires c κs = search needs
-
-between-requires : tie.Need-between-requires
-between-requires c κs = search needs
-
-number-requires : tie.Need-number-requires
-number-requires c κs = search needs
-
 returns : tie.Need-returns
 returns c = (c .number .ensures) ∙ ap (λ (w : List ℕ). wordOf (c .before .before .before .before .args .most) (c .before .before .word-end .result) (numberOf w)) (c .before .between .ensures)
     ∙ ap (λ (e : ℕ). wordOf (c .before .before .before .before .args .most) e (numberOf (between (c .before .before .before .before .args .line .now) (c .before .before .before .before .args .space) e))) (c .before .before .word-end .ensures)
 
 pub word-at-spec : {M : Type 1} → statement M
-word-at-spec = tie.close (tie.spec word-end-requires between-requires number-requires returns)
+word-at-spec =
+    tie.close
+    (tie.spec
+    (λ c κs. search needs) (λ c κs. search needs) (λ c κs. search needs)  -- word-end-requires, between-requires, number-requires
+    returns)

@@ -8,14 +8,12 @@ use borrow.Author.Needs.{needs}
 use Rattle.words.proofs.word_end.Statement.{statement}
 use Rattle.words.proofs.word_end.Tie as tie
 
-past-requires : tie.Need-past-requires
-past-requires c κs = search needs
-
-find-requires : tie.Need-find-requires
-find-requires c κs = search needs
-
 returns : tie.Need-returns
 returns c = (c .find .ensures .0) ∙ ap (λ (a : ℕ). a + indexOf 32 (slice a (length (c .before .before .before .args .line .now)) (c .before .before .before .args .line .now))) (c .before .past .ensures)
 
 pub word-end-spec : {M : Type 1} → statement M
-word-end-spec = tie.close (tie.spec past-requires find-requires returns)
+word-end-spec =
+    tie.close
+    (tie.spec
+    (λ c κs. search needs) (λ c κs. search needs)  -- past-requires, find-requires
+    returns)

@@ -16,17 +16,8 @@ cast-t10 : tie.Need-cast-t10
 cast-t10 c = omega (arith, (c .before .before .before .before .pre .1 .1 .1 .1 .1))
 
 -- src/replies.rt:71:11
-write-requires : tie.Need-write-requires
-write-requires c κs = search needs
-
 -- src/replies.rt:71:5
-count-requires : tie.Need-count-requires
-count-requires c κs = search needs
-
 -- src/replies.rt:55:1
-same-length : tie.Need-same-length
-same-length c = search needs
-
 -- src/replies.rt:55:1
 returns : tie.Need-returns
 returns c =
@@ -35,4 +26,9 @@ returns c =
     ∙ reply-sent (a .from .version) (a .from .service) (a .info) (a .from .session .0) (a .message) (a .payload .now) (a .out .now) (c .before .before .before .before .before .before .before .before .before .pre .0) (c .before .before .before .before .before .before .before .before .before .pre .1 .0) (c .before .before .before .before .before .before .before .before .before .pre .1 .1 .0) (c .before .before .before .before .before .before .before .before .before .pre .1 .1 .1 .0) (c .before .before .before .before .before .before .before .before .before .pre .1 .1 .1 .1 .0) (c .before .before .before .before .before .before .before .before .before .pre .1 .1 .1 .1 .1)
 
 pub put-spec : {M : Type 1} → statement M
-put-spec = tie.close (tie.spec cast-t10 write-requires count-requires same-length returns)
+put-spec =
+    tie.close
+    (tie.spec
+    cast-t10
+    (λ c κs. search needs) (λ c κs. search needs) (λ c. search needs)  -- write-requires, count-requires, same-length
+    returns)

@@ -20,17 +20,8 @@ use Rattle.headunit.proofs.replies.put.Reads as put-reads
 use Rattle.payload.proofs.reply.write_service_ack.Reads as write-service-ack-reads
 
 -- src/replies.rt:99:57
-slice-aggregate-write-service-ack : tie.Need-slice-aggregate-write-service-ack
-slice-aggregate-write-service-ack c = search needs
-
 -- src/replies.rt:99:5
-write-service-ack-requires : tie.Need-write-service-ack-requires
-write-service-ack-requires c κs = search needs
-
 -- src/replies.rt:100:35
-slice-aggregate-put : tie.Need-slice-aggregate-put
-slice-aggregate-put c = search needs
-
 -- src/replies.rt:100:5
 put-requires : tie.Need-put-requires
 put-requires c κs =
@@ -39,9 +30,6 @@ put-requires c κs =
     ((c .before .before .before .before .before .before .pre .0), ((c .before .before .before .before .before .before .pre .1 .0), ((c .before .before .before .before .before .before .pre .1 .1 .0), ((c .before .before .before .before .before .before .pre .1 .1 .1), (reply-infos .0, omega (arith, ap length e, length-service-ack (a .hash) (a .mtu)))))))
 
 -- src/replies.rt:94:1
-same-length : tie.Need-same-length
-same-length c = search needs
-
 -- src/replies.rt:94:1
 returns : tie.Need-returns
 returns c =
@@ -53,9 +41,7 @@ pub put-granted-spec : {M : Type 1} → statement M
 put-granted-spec =
     tie.close
     (tie.spec
-    slice-aggregate-write-service-ack
-    write-service-ack-requires
-    slice-aggregate-put
+    (λ c. search needs) (λ c κs. search needs) (λ c. search needs)  -- slice-aggregate-write-service-ack, write-service-ack-requires, slice-aggregate-put
     put-requires
-    same-length
+    (λ c. search needs)  -- same-length
     returns)

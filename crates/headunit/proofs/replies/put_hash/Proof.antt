@@ -20,17 +20,8 @@ use Rattle.headunit.proofs.replies.put.Reads as put-reads
 use Rattle.numbers.proofs.put_be4.Reads as put-be4-reads
 
 -- src/replies.rt:89:22
-slice-aggregate-put-be4 : tie.Need-slice-aggregate-put-be4
-slice-aggregate-put-be4 c = search needs
-
 -- src/replies.rt:89:5
-put-be4-requires : tie.Need-put-be4-requires
-put-be4-requires c κs = search needs
-
 -- src/replies.rt:90:35
-slice-aggregate-put : tie.Need-slice-aggregate-put
-slice-aggregate-put c = search needs
-
 -- src/replies.rt:90:5
 put-requires : tie.Need-put-requires
 put-requires c κs =
@@ -38,9 +29,6 @@ put-requires c κs =
     ((c .before .before .before .before .before .before .pre .0), ((c .before .before .before .before .before .before .pre .1 .0), ((c .before .before .before .before .before .before .pre .1 .1 .0), ((c .before .before .before .before .before .before .pre .1 .1 .1), (reply-infos .0, omega (arith, ap length (raw-put (replicate 4 0) (bytesBe 4 (a .hash)) refl (length-be 4 (a .hash)) (c .before .before .before .put-be4 .ensures)), length-be 4 (a .hash)))))))
 
 -- src/replies.rt:84:1
-same-length : tie.Need-same-length
-same-length c = search needs
-
 -- src/replies.rt:84:1
 returns : tie.Need-returns
 returns c =
@@ -51,9 +39,7 @@ pub put-hash-spec : {M : Type 1} → statement M
 put-hash-spec =
     tie.close
     (tie.spec
-    slice-aggregate-put-be4
-    put-be4-requires
-    slice-aggregate-put
+    (λ c. search needs) (λ c κs. search needs) (λ c. search needs)  -- slice-aggregate-put-be4, put-be4-requires, slice-aggregate-put
     put-requires
-    same-length
+    (λ c. search needs)  -- same-length
     returns)

@@ -19,25 +19,10 @@ use Rattle.headunit.proofs.replies.put.Reads as put-reads
 use Rattle.payload.proofs.reply.write_nak.Reads as write-nak-reads
 
 -- src/replies.rt:120:67
-slice-aggregate-write-nak : tie.Need-slice-aggregate-write-nak
-slice-aggregate-write-nak c = search needs
-
 -- src/replies.rt:120:30
-write-nak-requires : tie.Need-write-nak-requires
-write-nak-requires c κs = search needs
-
 -- src/replies.rt:120:9
-payload-count-requires : tie.Need-payload-count-requires
-payload-count-requires c κs = search needs
-
 -- src/replies.rt:121:24
-sub-put : tie.Need-sub-put
-sub-put c = search needs
-
 -- src/replies.rt:121:24
-part-put-start : tie.Need-part-put-start
-part-put-start c = search needs
-
 -- src/replies.rt:121:24
 part-put-end : tie.Need-part-put-end
 part-put-end c =
@@ -55,9 +40,6 @@ put-requires c κs =
     ((c .before .before .before .before .before .before .before .before .pre .0), ((c .before .before .before .before .before .before .before .before .pre .1 .0), ((c .before .before .before .before .before .before .before .before .pre .1 .1 .0), ((c .before .before .before .before .before .before .before .before .pre .1 .1 .1 .0), ((c .before .before .before .before .before .before .before .before .pre .1 .1 .1 .1), omega (arith, w .0))))))
 
 -- src/replies.rt:115:1
-same-length : tie.Need-same-length
-same-length c = search needs
-
 -- src/replies.rt:115:1
 returns : tie.Need-returns
 returns c =
@@ -71,12 +53,9 @@ pub put-nak-spec : {M : Type 1} → statement M
 put-nak-spec =
     tie.close
     (tie.spec
-    slice-aggregate-write-nak
-    write-nak-requires
-    payload-count-requires
-    sub-put
-    part-put-start
+    (λ c. search needs) (λ c κs. search needs) (λ c κs. search needs) (λ c. search needs)  -- slice-aggregate-write-nak, write-nak-requires, payload-count-requires, sub-put
+    (λ c. search needs)  -- part-put-start
     part-put-end
     put-requires
-    same-length
+    (λ c. search needs)  -- same-length
     returns)

@@ -23,9 +23,6 @@ put-nak-requires : tie.Need-put-nak-requires
 put-nak-requires c κs = ((c .before .before .before .pre .0), ((c .before .before .before .pre .1 .0), ((c .before .before .before .pre .1 .1 .0), ((c .before .before .before .pre .1 .1 .1), reply-infos .3))))
 
 -- src/replies.rt:143:9
-same-length : tie.Need-same-length
-same-length c = search needs
-
 -- src/replies.rt:143:9
 returns : tie.Need-returns
 returns c =
@@ -37,9 +34,6 @@ put-empty-requires : tie.Need-put-empty-requires
 put-empty-requires c κs = ((c .before .before .before .pre .0), ((c .before .before .before .pre .1 .0), ((c .before .before .before .pre .1 .1 .0), ((c .before .before .before .pre .1 .1 .1), reply-infos .3))))
 
 -- src/replies.rt:138:1
-same-length-2 : tie.Need-same-length-2
-same-length-2 c = search needs
-
 -- src/replies.rt:138:1
 returns-2 : tie.Need-returns-2
 returns-2 c =
@@ -49,4 +43,10 @@ returns-2 c =
 pub put-not-ended-spec : {M : Type 1} → statement M
 put-not-ended-spec =
     tie.close
-    (tie.spec put-nak-requires same-length returns put-empty-requires same-length-2 returns-2)
+    (tie.spec
+    put-nak-requires
+    (λ c. search needs)  -- same-length
+    returns
+    put-empty-requires
+    (λ c. search needs)  -- same-length-2
+    returns-2)

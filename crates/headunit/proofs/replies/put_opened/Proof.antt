@@ -23,25 +23,10 @@ use Rattle.headunit.proofs.replies.put.Reads as put-reads
 use Rattle.payload.proofs.reply.write_ack.Reads as write-ack-reads
 
 -- src/replies.rt:109:83
-slice-aggregate-write-ack : tie.Need-slice-aggregate-write-ack
-slice-aggregate-write-ack c = search needs
-
 -- src/replies.rt:109:30
-write-ack-requires : tie.Need-write-ack-requires
-write-ack-requires c κs = search needs
-
 -- src/replies.rt:109:9
-payload-count-requires : tie.Need-payload-count-requires
-payload-count-requires c κs = search needs
-
 -- src/replies.rt:111:29
-sub-put : tie.Need-sub-put
-sub-put c = search needs
-
 -- src/replies.rt:111:29
-part-put-start : tie.Need-part-put-start
-part-put-start c = search needs
-
 -- src/replies.rt:111:29
 part-put-end : tie.Need-part-put-end
 part-put-end c =
@@ -59,9 +44,6 @@ put-requires c κs =
     ((c .before .before .before .before .before .before .before .before .pre), (omega arith, (omega arith, (rpc-listed, (reply-infos .0, omega (arith, w .0))))))
 
 -- src/replies.rt:104:1
-same-length : tie.Need-same-length
-same-length c = search needs
-
 -- src/replies.rt:104:1
 returns : tie.Need-returns
 returns c =
@@ -75,12 +57,9 @@ pub put-opened-spec : {M : Type 1} → statement M
 put-opened-spec =
     tie.close
     (tie.spec
-    slice-aggregate-write-ack
-    write-ack-requires
-    payload-count-requires
-    sub-put
-    part-put-start
+    (λ c. search needs) (λ c κs. search needs) (λ c κs. search needs) (λ c. search needs)  -- slice-aggregate-write-ack, write-ack-requires, payload-count-requires, sub-put
+    (λ c. search needs)  -- part-put-start
     part-put-end
     put-requires
-    same-length
+    (λ c. search needs)  -- same-length
     returns)

@@ -16,13 +16,7 @@ use Rattle.headunit.proofs.replies.put_granted.Reads as put-granted-rea
 use Rattle.headunit.proofs.replies.put_hash.Reads as put-hash-reads
 
 -- src/replies.rt:132:9
-put-granted-requires : tie.Need-put-granted-requires
-put-granted-requires c κs = search needs
-
 -- src/replies.rt:132:9
-same-length : tie.Need-same-length
-same-length c = search needs
-
 -- src/replies.rt:132:9
 returns : tie.Need-returns
 returns c =
@@ -30,13 +24,7 @@ returns c =
     (c .before .before .put-granted .ensures) ∙ ap (λ (x : List ℕ). sentOf (replyBytes (a .from .version) (a .from .service) 0x02 (a .from .session .0) (a .message) x) (a .out .now)) (granted-new (a .settled) (a .hash) (a .mtu) (c .before .before .before .before .if1 .taken))
 
 -- src/replies.rt:134:5
-put-hash-requires : tie.Need-put-hash-requires
-put-hash-requires c κs = search needs
-
 -- src/replies.rt:127:1
-same-length-2 : tie.Need-same-length-2
-same-length-2 c = search needs
-
 -- src/replies.rt:127:1
 returns-2 : tie.Need-returns-2
 returns-2 c =
@@ -46,4 +34,8 @@ returns-2 c =
 pub put-started-spec : {M : Type 1} → statement M
 put-started-spec =
     tie.close
-    (tie.spec put-granted-requires same-length returns put-hash-requires same-length-2 returns-2)
+    (tie.spec
+    (λ c κs. search needs) (λ c. search needs)  -- put-granted-requires, same-length
+    returns
+    (λ c κs. search needs) (λ c. search needs)  -- put-hash-requires, same-length-2
+    returns-2)

@@ -4,11 +4,12 @@ use borrow.Author.Needs.{needs}
 use Rattle.session.proofs.Row.acked.Statement.{statement}
 use Rattle.session.proofs.Row.acked.Tie as tie
 
-wrapping-add-u32-requires : tie.Need-wrapping-add-u32-requires
-wrapping-add-u32-requires c κs = search needs
-
 returns : tie.Need-returns
 returns c = rw (c .wrapping-add-u32 .ensures)
 
 pub acked-spec : {M : Type 1} → statement M
-acked-spec = tie.close (tie.spec wrapping-add-u32-requires returns)
+acked-spec =
+    tie.close
+    (tie.spec
+    (λ c κs. search needs)  -- wrapping-add-u32-requires
+    returns)

@@ -6,12 +6,6 @@ use borrow.Author.Needs.{needs}
 use Rattle.session.proofs.Row.admitted.Statement.{statement}
 use Rattle.session.proofs.Row.admitted.Tie as tie
 
-mul-t9 : tie.Need-mul-t9
-mul-t9 c = search needs
-
-element-set-from-self : tie.Need-element-set-from-self
-element-set-from-self c = search needs
-
 returns : tie.Need-returns
 unfolding withMessageAt
 returns c = rw (lt-ltb _ _ (c .if1 .taken))
@@ -21,4 +15,9 @@ unfolding withMessageAt
 returns-2 c = rw (le-ltb _ _ (c .if1 .left))
 
 pub admitted-spec : {M : Type 1} → statement M
-admitted-spec = tie.close (tie.spec mul-t9 element-set-from-self returns returns-2)
+admitted-spec =
+    tie.close
+    (tie.spec
+    (λ c. search needs) (λ c. search needs)  -- mul-t9, element-set-from-self
+    returns
+    returns-2)

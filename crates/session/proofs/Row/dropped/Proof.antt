@@ -6,15 +6,6 @@ use borrow.Author.Needs.{needs}
 use Rattle.session.proofs.Row.dropped.Statement.{statement}
 use Rattle.session.proofs.Row.dropped.Tie as tie
 
-no-reassembly-requires : tie.Need-no-reassembly-requires
-no-reassembly-requires c κs = search needs
-
-mul-t6 : tie.Need-mul-t6
-mul-t6 c = search needs
-
-element-set-from-self : tie.Need-element-set-from-self
-element-set-from-self c = search needs
-
 returns : tie.Need-returns
 unfolding withMessageAt
 returns c = rw (lt-ltb _ _ (c .before .if1 .taken), (c .no-reassembly .ensures))
@@ -25,4 +16,8 @@ returns-2 c = rw (le-ltb _ _ (c .if1 .left))
 
 pub dropped-spec : {M : Type 1} → statement M
 dropped-spec =
-    tie.close (tie.spec no-reassembly-requires mul-t6 element-set-from-self returns returns-2)
+    tie.close
+    (tie.spec
+    (λ c κs. search needs) (λ c. search needs) (λ c. search needs)  -- no-reassembly-requires, mul-t6, element-set-from-self
+    returns
+    returns-2)

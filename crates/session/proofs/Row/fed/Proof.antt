@@ -6,24 +6,6 @@ use borrow.Author.Needs.{needs}
 use Rattle.session.proofs.Row.fed.Statement.{statement}
 use Rattle.session.proofs.Row.fed.Tie as tie
 
-mul-message : tie.Need-mul-message
-mul-message c = search needs
-
-element-copy-out-message : tie.Need-element-copy-out-message
-element-copy-out-message c = search needs
-
-less-requires : tie.Need-less-requires
-less-requires c κs = search needs
-
-less-requires-2 : tie.Need-less-requires-2
-less-requires-2 c κs = search needs
-
-mul-message-2 : tie.Need-mul-message-2
-mul-message-2 c = search needs
-
-element-set-from-message : tie.Need-element-set-from-message
-element-set-from-message c = search needs
-
 returns : tie.Need-returns
 unfolding withMessageAt
 returns c = rw (lt-ltb _ _ (c .before .before .before .if1 .taken), (c .before .less .ensures), (c .less2 .ensures))
@@ -36,11 +18,7 @@ pub fed-spec : {M : Type 1} → statement M
 fed-spec =
     tie.close
     (tie.spec
-    mul-message
-    element-copy-out-message
-    less-requires
-    less-requires-2
-    mul-message-2
-    element-set-from-message
+    (λ c. search needs) (λ c. search needs) (λ c κs. search needs) (λ c κs. search needs)  -- mul-message, element-copy-out-message, less-requires, less-requires-2
+    (λ c. search needs) (λ c. search needs)  -- mul-message-2, element-set-from-message
     returns
     returns-2)

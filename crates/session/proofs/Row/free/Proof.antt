@@ -4,11 +4,12 @@ use borrow.Author.Needs.{needs}
 use Rattle.session.proofs.Row.free.Statement.{statement}
 use Rattle.session.proofs.Row.free.Tie as tie
 
-no-reassembly-requires : tie.Need-no-reassembly-requires
-no-reassembly-requires c κs = search needs
-
 returns : tie.Need-returns
 returns c = rw (c .no-reassembly .ensures)
 
 pub free-spec : {M : Type 1} → statement M
-free-spec = tie.close (tie.spec no-reassembly-requires returns)
+free-spec =
+    tie.close
+    (tie.spec
+    (λ c κs. search needs)  -- no-reassembly-requires
+    returns)

@@ -5,17 +5,12 @@ use borrow.Author.Needs.{needs}
 use Rattle.text.proofs.Text.answer.Statement.{statement}
 use Rattle.text.proofs.Text.answer.Tie as tie
 
-empty-requires : tie.Need-empty-requires
-empty-requires c κs = search needs
-
-byte-requires : tie.Need-byte-requires
-byte-requires c κs = search needs
-
-number-requires : tie.Need-number-requires
-number-requires c κs = search needs
-
 returns : tie.Need-returns
 returns c = started (started (c .before .before .empty .ensures) (c .before .byte .ensures)) (c .number .ensures)
 
 pub answer-spec : {M : Type 1} → statement M
-answer-spec = tie.close (tie.spec empty-requires byte-requires number-requires returns)
+answer-spec =
+    tie.close
+    (tie.spec
+    (λ c κs. search needs) (λ c κs. search needs) (λ c κs. search needs)  -- empty-requires, byte-requires, number-requires
+    returns)

@@ -9,24 +9,6 @@ use borrow.Author.Needs.{needs}
 use Rattle.text.proofs.Text.decimal.Statement.{statement}
 use Rattle.text.proofs.Text.decimal.Tie as tie
 
-slice-aggregate-number-to-decimal : tie.Need-slice-aggregate-number-to-decimal
-slice-aggregate-number-to-decimal c = search needs
-
-number-to-decimal-requires : tie.Need-number-to-decimal-requires
-number-to-decimal-requires c κs = search needs
-
-written-requires : tie.Need-written-requires
-written-requires c κs = search needs
-
-slice-aggregate-front : tie.Need-slice-aggregate-front
-slice-aggregate-front c = search needs
-
-front-requires : tie.Need-front-requires
-front-requires c κs = search needs
-
-put-requires : tie.Need-put-requires
-put-requires c κs = search needs
-
 returns : tie.Need-returns
 returns c =
     let n = c .before .before .before .before .before .before .before .args .number in
@@ -37,10 +19,6 @@ pub decimal-spec : {M : Type 1} → statement M
 decimal-spec =
     tie.close
     (tie.spec
-    slice-aggregate-number-to-decimal
-    number-to-decimal-requires
-    written-requires
-    slice-aggregate-front
-    front-requires
-    put-requires
+    (λ c. search needs) (λ c κs. search needs) (λ c κs. search needs) (λ c. search needs)  -- slice-aggregate-number-to-decimal, number-to-decimal-requires, written-requires, slice-aggregate-front
+    (λ c κs. search needs) (λ c κs. search needs)  -- front-requires, put-requires
     returns)

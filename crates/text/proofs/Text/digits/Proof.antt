@@ -9,24 +9,6 @@ use borrow.Author.Needs.{needs}
 use Rattle.text.proofs.Text.digits.Statement.{statement}
 use Rattle.text.proofs.Text.digits.Tie as tie
 
-slice-aggregate-bytes-to-hex : tie.Need-slice-aggregate-bytes-to-hex
-slice-aggregate-bytes-to-hex c = search needs
-
-bytes-to-hex-requires : tie.Need-bytes-to-hex-requires
-bytes-to-hex-requires c κs = search needs
-
-written-requires : tie.Need-written-requires
-written-requires c κs = search needs
-
-slice-aggregate-front : tie.Need-slice-aggregate-front
-slice-aggregate-front c = search needs
-
-front-requires : tie.Need-front-requires
-front-requires c κs = search needs
-
-put-requires : tie.Need-put-requires
-put-requires c κs = search needs
-
 returns : tie.Need-returns
 returns c =
     let s = c .before .before .before .before .before .before .before .before .args .bytes .now in
@@ -37,10 +19,6 @@ pub digits-spec : {M : Type 1} → statement M
 digits-spec =
     tie.close
     (tie.spec
-    slice-aggregate-bytes-to-hex
-    bytes-to-hex-requires
-    written-requires
-    slice-aggregate-front
-    front-requires
-    put-requires
+    (λ c. search needs) (λ c κs. search needs) (λ c κs. search needs) (λ c. search needs)  -- slice-aggregate-bytes-to-hex, bytes-to-hex-requires, written-requires, slice-aggregate-front
+    (λ c κs. search needs) (λ c κs. search needs)  -- front-requires, put-requires
     returns)

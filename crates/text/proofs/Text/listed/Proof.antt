@@ -5,17 +5,17 @@ use borrow.Author.Needs.{needs}
 use Rattle.text.proofs.Text.listed.Statement.{statement}
 use Rattle.text.proofs.Text.listed.Tie as tie
 
-byte-requires : tie.Need-byte-requires
-byte-requires c κs = search needs
-
 returns : tie.Need-returns
 returns c = rw (le-leb (c .before .before .before .args .self .end) (c .before .before .before .args .start) (c .before .if1 .taken)) (c .byte .ensures)
-
-same-requires : tie.Need-same-requires
-same-requires c κs = search needs
 
 returns-2 : tie.Need-returns-2
 returns-2 c = rw (lt-leb (c .before .before .before .args .self .end) (c .before .before .before .args .start) (c .before .if1 .left)) (c .same .ensures)
 
 pub listed-spec : {M : Type 1} → statement M
-listed-spec = tie.close (tie.spec byte-requires returns same-requires returns-2)
+listed-spec =
+    tie.close
+    (tie.spec
+    (λ c κs. search needs)  -- byte-requires
+    returns
+    (λ c κs. search needs)  -- same-requires
+    returns-2)

@@ -5,15 +5,13 @@ use borrow.Author.Needs.{needs}
 use Rattle.text.proofs.Text.pair.Statement.{statement}
 use Rattle.text.proofs.Text.pair.Tie as tie
 
-slice-aggregate-digits : tie.Need-slice-aggregate-digits
-slice-aggregate-digits c = search needs
-
-digits-requires : tie.Need-digits-requires
-digits-requires c κs = search needs
-
 returns : tie.Need-returns
 unfolding hexOf
 returns c = c .digits .ensures
 
 pub pair-spec : {M : Type 1} → statement M
-pair-spec = tie.close (tie.spec slice-aggregate-digits digits-requires returns)
+pair-spec =
+    tie.close
+    (tie.spec
+    (λ c. search needs) (λ c κs. search needs)  -- slice-aggregate-digits, digits-requires
+    returns)

@@ -8,9 +8,6 @@ use borrow.Author.Needs.{needs}
 use Rattle.text.proofs.Text.same.Statement.{statement}
 use Rattle.text.proofs.Text.same.Tie as tie
 
-least-requires : tie.Need-least-requires
-least-requires c κs = search needs
-
 returns : tie.Need-returns
 returns c =
     let t = c .before .args .self in
@@ -18,4 +15,8 @@ returns c =
     record { says = same-said (t .chars) l (t .end) (c .least .ensures); within = omega (arith, c .least .ensures); cut = refl; size = refl }
 
 pub same-spec : {M : Type 1} → statement M
-same-spec = tie.close (tie.spec least-requires returns)
+same-spec =
+    tie.close
+    (tie.spec
+    (λ c κs. search needs)  -- least-requires
+    returns)

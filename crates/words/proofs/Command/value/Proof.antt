@@ -8,15 +8,6 @@ use borrow.Author.Needs.{needs}
 use Rattle.words.proofs.Command.value.Statement.{statement}
 use Rattle.words.proofs.Command.value.Tie as tie
 
-mul-result : tie.Need-mul-result
-mul-result c = search needs
-
-element-copy-out-result : tie.Need-element-copy-out-result
-element-copy-out-result c = search needs
-
-returns : tie.Need-returns
-returns c = search needs
-
 returns-2 : tie.Need-returns-2
 returns-2 c = let v = c .before .args .t1 .values in
     let l : length v ≡ 9 = sym (length-map v _) ∙ c .before .good .0 .1 .1 .1 .0 .1 .0 .1 in
@@ -24,4 +15,8 @@ returns-2 c = let v = c .before .args .t1 .values in
     sym (List·getD-eq-default v 0 {n = c .before .args .i} m)
 
 pub value-spec : {M : Type 1} → statement M
-value-spec = tie.close (tie.spec mul-result element-copy-out-result returns returns-2)
+value-spec =
+    tie.close
+    (tie.spec
+    (λ c. search needs) (λ c. search needs) (λ c. search needs)  -- mul-result, element-copy-out-result, returns
+    returns-2)
