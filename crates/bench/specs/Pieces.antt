@@ -10,6 +10,13 @@ use Rattle.benchline.specs.declared.Output.{Output}
 use Rattle.benchline.specs.declared.Output.the-variants.{Text, Full}
 use Rattle.benchline.specs.Line.{Left, mostText, lineOf}
 
+-- "out of 65,536 bytes", and the pool that a link asks for
+abbrev pub outSize : ℕ
+outSize = 65536
+
+abbrev pub poolSize : ℕ
+poolSize = 65536
+
 -- a line of 3,000 digits, and one character more to tell a longer one: what is behind that makes no difference
 abbrev pub mostKept : ℕ
 mostKept = 3001

@@ -6,7 +6,7 @@ ghost use mathlib.Core.Path.{_≡_};
 ghost use mathlib.Core.List.{_++_};
 ghost use lib.ListN.{length, take};
 ghost use Rattle.benchline.specs.Line.{left, lineOf, mostText};
-ghost use Rattle.bench.specs.Pieces.{IsText, sizeOf, mostKept, runOf, waitingBefore, written, afterLines, linesIn, keptAfter, waits, lastOf};
+ghost use Rattle.bench.specs.Pieces.{poolSize, outSize, IsText, sizeOf, mostKept, runOf, waitingBefore, written, afterLines, linesIn, keptAfter, waits, lastOf};
 use benchline::Bench;
 use benchline::Output;
 use benchline::Turn;
@@ -229,6 +229,7 @@ fn end_input(left: Left, line: &[u8], pool: &mut [u8], out: &mut [u8], texts: &m
 
 // A proved loop has to end, and nothing says that the input does. So the turns are counted down, from a number that no run uses up.
 fn serve(piece: &mut [u8], line: &mut [u8], pool: &mut [u8], out: &mut [u8], texts: &mut [u8])
+    requires { ⌜ (length (now pool) ≡ poolSize) × (length (now out) ≡ outSize) ⌝ }
     requires { ⌜ (mostText (now out) ≤ length (now texts)) × (mostKept ≤ length (now line)) ⌝ }
 {
     let mut now = Left {

@@ -5,7 +5,7 @@ use Rattle.bench.proofs.main.Statement.{statement}
 use Rattle.bench.proofs.main.Tie as tie
 
 serve-requires : tie.Need-serve-requires
-serve-requires c κs = (search needs, search needs)
+serve-requires c κs = ((search needs, search needs), (search needs, search needs))
 
 pub main-spec : {M : Type 1} → statement M
 main-spec =
