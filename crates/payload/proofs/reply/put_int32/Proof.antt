@@ -6,17 +6,11 @@ use borrow.Author.Needs.{needs}
 use Rattle.payload.proofs.reply.put_int32.Statement.{statement}
 use Rattle.payload.proofs.reply.put_int32.Tie as tie
 
-put-head-requires : tie.Need-put-head-requires
-put-head-requires c κs = search needs
-
 put-four-requires : tie.Need-put-four-requires
 put-four-requires c κs = omega (arith, (c .before .before .before .before .before .before .before .pre), (c .before .before .before .put-head .ensures .ends), length-head 16 (c .before .before .before .before .before .before .before .args .key .now))
-
-same-length : tie.Need-same-length
-same-length c = search needs
 
 returns : tie.Need-returns
 returns c = int32-put (c .before .before .before .before .before .before .before .before .before .before .args .key .now) (c .before .before .before .before .before .before .before .before .before .before .args .x) (c .before .before .before .before .before .before .before .before .before .before .pre) (c .before .before .before .before .before .before .put-head .ensures) (c .before .before .put-four .ensures)
 
 pub put-int32-spec : {M : Type 1} → statement M
-put-int32-spec = tie.close (tie.spec put-head-requires put-four-requires same-length returns)
+put-int32-spec = tie.close (tie.spec (λ c κs. search needs) put-four-requires (λ c. search needs) returns)

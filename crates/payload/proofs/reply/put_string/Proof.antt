@@ -7,15 +7,6 @@ use borrow.Author.Needs.{needs}
 use Rattle.payload.proofs.reply.put_string.Statement.{statement}
 use Rattle.payload.proofs.reply.put_string.Tie as tie
 
-put-head-requires : tie.Need-put-head-requires
-put-head-requires c κs = search needs
-
-cast-put-four : tie.Need-cast-put-four
-cast-put-four c = search needs
-
-add-put-four : tie.Need-add-put-four
-add-put-four c = search needs
-
 put-four-requires : tie.Need-put-four-requires
 put-four-requires c κs = omega (arith, (c .before .before .before .before .before .before .before .before .pre .0), (c .before .before .before .put-head .ensures .ends), length-head 2 (c .before .before .before .before .before .before .before .before .args .key .now))
 
@@ -25,9 +16,6 @@ put-bytes-requires c κs = omega (arith, (c .before .before .before .before .bef
 put-byte-requires : tie.Need-put-byte-requires
 put-byte-requires c κs = omega (arith, (c .before .before .before .before .before .before .before .before .before .before .before .before .before .before .before .before .pre .0), (c .before .before .before .put-bytes .ensures .ends), simp length-le at (c .before .before .before .before .before .before .before .put-four .ensures .ends), (c .before .before .before .before .before .before .before .before .before .before .before .put-head .ensures .ends), length-head 2 (c .before .before .before .before .before .before .before .before .before .before .before .before .before .before .before .before .args .key .now))
 
-same-length : tie.Need-same-length
-same-length c = search needs
-
 returns : tie.Need-returns
 returns c = string-put (c .before .before .before .before .before .before .before .before .before .before .before .before .before .before .before .before .before .before .before .args .key .now) (c .before .before .before .before .before .before .before .before .before .before .before .before .before .before .before .before .before .before .before .args .text .now) _ (omega arith) (c .before .before .before .before .before .before .before .before .before .before .before .before .before .before .before .before .before .before .before .pre .0) (c .before .before .before .before .before .before .before .before .before .before .before .before .before .before .put-head .ensures) (c .before .before .before .before .before .before .before .before .before .before .put-four .ensures) (c .before .before .before .before .before .before .put-bytes .ensures) (c .before .before .put-byte .ensures)
 
@@ -35,11 +23,9 @@ pub put-string-spec : {M : Type 1} → statement M
 put-string-spec =
     tie.close
     (tie.spec
-    put-head-requires
-    cast-put-four
-    add-put-four
-    put-four-requires
-    put-bytes-requires
-    put-byte-requires
-    same-length
+    (λ c κs. search needs)  -- put_head
+    (λ c. search needs) (λ c. search needs) put-four-requires  -- put_four
+    put-bytes-requires  -- put_bytes
+    put-byte-requires  -- put_byte
+    (λ c. search needs)
     returns)

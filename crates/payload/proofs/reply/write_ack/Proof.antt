@@ -12,38 +12,14 @@ use borrow.Author.Needs.{needs}
 use Rattle.payload.proofs.reply.write_ack.Statement.{statement}
 use Rattle.payload.proofs.reply.write_ack.Tie as tie
 
-add-end : tie.Need-add-end
-add-end c = search needs
-
-add-end-2 : tie.Need-add-end-2
-add-end-2 c = search needs
-
-size-requires : tie.Need-size-requires
-size-requires c κs = search needs
-
-add-end-3 : tie.Need-add-end-3
-add-end-3 c = omega (arith, (c .size .ensures .1))
-
 returns : tie.Need-returns
 returns c = too-small (ackPayload (c .before .before .before .args .hash) (c .before .before .before .args .mtu) (c .before .before .before .args .version)) (c .before .before .before .args .out .now) (52 + (c .before .size .result)) (omega (arith, (c .before .size .ensures .0), length-ack (c .before .before .before .args .hash) (c .before .before .before .args .mtu) (c .before .before .before .args .version))) (omega arith)
-
-cast-put-four : tie.Need-cast-put-four
-cast-put-four c = omega (arith, (c .before .size .ensures .1))
-
-put-four-requires : tie.Need-put-four-requires
-put-four-requires c κs = search needs
-
-put-grant-requires : tie.Need-put-grant-requires
-put-grant-requires c κs = omega (arith, (c .before .before .before .before .before .if1 .left), simp length-le at (c .before .before .before .put-four .ensures .ends))
 
 put-version-requires : tie.Need-put-version-requires
 put-version-requires c κs = (omega (arith, (c .before .before .before .before .before .before .before .before .before .if1 .left), (c .before .before .before .before .before .before .before .before .before .before .size .ensures .0), (c .before .before .before .put-grant .ensures .ends), simp length-le at (c .before .before .before .before .before .before .before .put-four .ensures .ends), length-grant (c .before .before .before .before .before .before .before .before .before .before .before .before .args .hash) (c .before .before .before .before .before .before .before .before .before .before .before .before .args .mtu)), omega (arith, (c .before .before .before .before .before .before .before .before .before .before .size .ensures .0), (c .before .before .before .before .before .before .before .before .before .before .size .ensures .1)))
 
 put-byte-requires : tie.Need-put-byte-requires
 put-byte-requires c κs = omega (arith, (c .before .before .before .before .before .before .before .before .before .before .before .before .before .if1 .left), (c .before .before .before .before .before .before .before .before .before .before .before .before .before .before .size .ensures .0), (c .before .before .before .put-version .ensures .ends), (c .before .before .before .before .before .before .before .put-grant .ensures .ends), simp length-le at (c .before .before .before .before .before .before .before .before .before .before .before .put-four .ensures .ends), length-grant (c .before .before .before .before .before .before .before .before .before .before .before .before .before .before .before .before .args .hash) (c .before .before .before .before .before .before .before .before .before .before .before .before .before .before .before .before .args .mtu), length-string protocolVersion (versionText (c .before .before .before .before .before .before .before .before .before .before .before .before .before .before .before .before .args .version)))
-
-same-length : tie.Need-same-length
-same-length c = search needs
 
 returns-2 : tie.Need-returns-2
 returns-2 c = all-put (ackPayload (c .before .before .before .before .before .before .before .before .before .before .before .before .before .before .before .before .before .before .before .args .hash) (c .before .before .before .before .before .before .before .before .before .before .before .before .before .before .before .before .before .before .before .args .mtu) (c .before .before .before .before .before .before .before .before .before .before .before .before .before .before .before .before .before .before .before .args .version)) (c .before .before .before .before .before .before .before .before .before .before .before .before .before .before .before .before .before .before .before .args .out .now) (52 + (c .before .before .before .before .before .before .before .before .before .before .before .before .before .before .before .before .before .size .result)) (omega (arith, (c .before .before .before .before .before .before .before .before .before .before .before .before .before .before .before .before .before .size .ensures .0), length-ack (c .before .before .before .before .before .before .before .before .before .before .before .before .before .before .before .before .before .before .before .args .hash) (c .before .before .before .before .before .before .before .before .before .before .before .before .before .before .before .before .before .before .before .args .mtu) (c .before .before .before .before .before .before .before .before .before .before .before .before .before .before .before .before .before .before .before .args .version))) (c .before .before .before .before .before .before .before .before .before .before .before .before .before .before .before .before .if1 .left) (ack-put (c .before .before .before .before .before .before .before .before .before .before .before .before .before .before .before .before .before .before .before .args .hash) (c .before .before .before .before .before .before .before .before .before .before .before .before .before .before .before .before .before .before .before .args .mtu) (c .before .before .before .before .before .before .before .before .before .before .before .before .before .before .before .before .before .before .before .args .version) (c .before .before .before .before .before .before .before .before .before .before .before .before .before .before .before .before .before .size .ensures .0) (c .before .before .before .before .before .before .before .before .before .before .before .before .before .before .before .before .if1 .left) (c .before .before .before .before .before .before .before .before .before .before .before .before .before .before .put-four .ensures) (c .before .before .before .before .before .before .before .before .before .before .put-grant .ensures) (c .before .before .before .before .before .before .put-version .ensures) (c .before .before .put-byte .ensures))
@@ -52,15 +28,11 @@ pub write-ack-spec : {M : Type 1} → statement M
 write-ack-spec =
     tie.close
     (tie.spec
-    add-end
-    add-end-2
-    size-requires
-    add-end-3
-    returns
-    cast-put-four
-    put-four-requires
-    put-grant-requires
-    put-version-requires
-    put-byte-requires
-    same-length
-    returns-2)
+    (λ c. search needs) (λ c. search needs) (λ c κs. search needs) (λ c. omega (arith, (c .size .ensures .1)))  -- end
+    returns  -- Refused
+    (λ c. omega (arith, (c .before .size .ensures .1))) (λ c κs. search needs)  -- put_four
+    (λ c κs. omega (arith, (c .before .before .before .before .before .if1 .left), simp length-le at (c .before .before .before .put-four .ensures .ends)))  -- put_grant
+    put-version-requires  -- put_version
+    put-byte-requires  -- put_byte
+    (λ c. search needs)
+    returns-2)  -- Bytes(end)

@@ -11,29 +11,14 @@ use borrow.Author.Needs.{needs}
 use Rattle.payload.proofs.reply.write_rejected.Statement.{statement}
 use Rattle.payload.proofs.reply.write_rejected.Tie as tie
 
-add-end : tie.Need-add-end
-add-end c = search needs
-
-add-end-2 : tie.Need-add-end-2
-add-end-2 c = search needs
-
 returns : tie.Need-returns
 returns c = too-small (nakPayload (c .before .before .before .args .name .now)) (c .before .before .before .args .out .now) (34 + length (c .before .before .before .args .name .now)) (omega (arith, length-nak (c .before .before .before .args .name .now))) (c .if1 .taken)
-
-cast-put-four : tie.Need-cast-put-four
-cast-put-four c = search needs
-
-put-four-requires : tie.Need-put-four-requires
-put-four-requires c κs = search needs
 
 put-rejected-requires : tie.Need-put-rejected-requires
 put-rejected-requires c κs = (omega (arith, (c .before .before .before .before .before .if1 .left), (c .before .before .before .put-four .ensures .ends), length-le 4 (34 + length (c .before .before .before .before .before .before .before .before .args .name .now))), (c .before .before .before .before .before .before .before .before .pre))
 
 put-byte-requires : tie.Need-put-byte-requires
 put-byte-requires c κs = omega (arith, (c .before .before .before .before .before .before .before .before .before .if1 .left), (c .before .before .before .put-rejected .ensures .ends), (c .before .before .before .before .before .before .before .put-four .ensures .ends), length-le 4 (34 + length (c .before .before .before .before .before .before .before .before .before .before .before .before .args .name .now)), length-rejected (c .before .before .before .before .before .before .before .before .before .before .before .before .args .name .now))
-
-same-length : tie.Need-same-length
-same-length c = search needs
 
 returns-2 : tie.Need-returns-2
 returns-2 c = all-put (nakPayload (c .before .before .before .before .before .before .before .before .before .before .before .before .before .before .before .args .name .now)) (c .before .before .before .before .before .before .before .before .before .before .before .before .before .before .before .args .out .now) (34 + length (c .before .before .before .before .before .before .before .before .before .before .before .before .before .before .before .args .name .now)) (omega (arith, length-nak (c .before .before .before .before .before .before .before .before .before .before .before .before .before .before .before .args .name .now))) (c .before .before .before .before .before .before .before .before .before .before .before .before .if1 .left) (nak-put (c .before .before .before .before .before .before .before .before .before .before .before .before .before .before .before .args .name .now) (c .before .before .before .before .before .before .before .before .before .before .before .before .if1 .left) (c .before .before .before .before .before .before .before .before .before .before .put-four .ensures) (c .before .before .before .before .before .before .put-rejected .ensures) (c .before .before .put-byte .ensures))
@@ -42,12 +27,10 @@ pub write-rejected-spec : {M : Type 1} → statement M
 write-rejected-spec =
     tie.close
     (tie.spec
-    add-end
-    add-end-2
-    returns
-    cast-put-four
-    put-four-requires
-    put-rejected-requires
-    put-byte-requires
-    same-length
-    returns-2)
+    (λ c. search needs) (λ c. search needs)  -- end
+    returns  -- Refused
+    (λ c. search needs) (λ c κs. search needs)  -- put_four
+    put-rejected-requires  -- put_rejected
+    put-byte-requires  -- put_byte
+    (λ c. search needs)
+    returns-2)  -- Bytes(end)

@@ -6,27 +6,9 @@ use borrow.Author.Needs.{needs}
 use Rattle.payload.proofs.version.part.Statement.{statement}
 use Rattle.payload.proofs.version.part.Tie as tie
 
-spare-zero-requires : tie.Need-spare-zero-requires
-spare-zero-requires c κs = search needs
-
 returns : tie.Need-returns
 unfolding partOf
 returns c = rw (sym (c .before .spare-zero .ensures) ∙ (c .if1 .taken))
-
-decimal-to-number-requires : tie.Need-decimal-to-number-requires
-decimal-to-number-requires c κs = search needs
-
-enum-known-n : tie.Need-enum-known-n
-enum-known-n c = search needs
-
-least-requires : tie.Need-least-requires
-least-requires c κs = search needs
-
-enum-told : tie.Need-enum-told
-enum-told c = search needs
-
-enum-told-2 : tie.Need-enum-told-2
-enum-told-2 c = search needs
 
 returns-2 : tie.Need-returns-2
 unfolding partOf
@@ -44,13 +26,9 @@ pub part-spec : {M : Type 1} → statement M
 part-spec =
     tie.close
     (tie.spec
-    spare-zero-requires
-    returns
-    decimal-to-number-requires
-    enum-known-n
-    least-requires
-    enum-told
-    enum-told-2
-    returns-2
-    returns-3
-    returns-4)
+    (λ c κs. search needs)  -- spare_zero
+    returns  -- NO_PART
+    (λ c κs. search needs)  -- decimal_to_number
+    (λ c. search needs) (λ c κs. search needs)  -- Value(n)
+    (λ c. search needs) (λ c. search needs)  -- NotDecimal, TooLarge
+    returns-2 returns-3 returns-4)

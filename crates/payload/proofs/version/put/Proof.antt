@@ -6,9 +6,6 @@ use borrow.Author.Needs.{needs}
 use Rattle.payload.proofs.version.put.Statement.{statement}
 use Rattle.payload.proofs.version.put.Tie as tie
 
-put-part-requires : tie.Need-put-part-requires
-put-part-requires c κs = omega (arith, (c .before .before .pre), length-version (c .before .before .args .version))
-
 put-byte-requires : tie.Need-put-byte-requires
 put-byte-requires c κs = omega (arith, (c .before .before .before .before .before .before .pre), (c .before .before .before .put-part .ensures .ends), length-version (c .before .before .before .before .before .before .args .version))
 
@@ -21,9 +18,6 @@ put-byte-requires-2 c κs = omega (arith, (c .before .before .before .before .be
 put-part-requires-3 : tie.Need-put-part-requires-3
 put-part-requires-3 c κs = omega (arith, (c .before .before .before .before .before .before .before .before .before .before .before .before .before .before .before .before .before .before .pre), (c .before .before .before .put-byte2 .ensures .ends), (c .before .before .before .before .before .before .before .put-part2 .ensures .ends), (c .before .before .before .before .before .before .before .before .before .before .before .put-byte .ensures .ends), (c .before .before .before .before .before .before .before .before .before .before .before .before .before .before .before .put-part .ensures .ends), length-version (c .before .before .before .before .before .before .before .before .before .before .before .before .before .before .before .before .before .before .args .version))
 
-same-length : tie.Need-same-length
-same-length c = search needs
-
 returns : tie.Need-returns
 returns c = version-put (c .before .before .before .before .before .before .before .before .before .before .before .before .before .before .before .before .before .before .before .before .before .args .version) (c .before .before .before .before .before .before .before .before .before .before .before .before .before .before .before .before .before .before .before .before .before .pre) (c .before .before .before .before .before .before .before .before .before .before .before .before .before .before .before .before .before .before .put-part .ensures) (c .before .before .before .before .before .before .before .before .before .before .before .before .before .before .put-byte .ensures) (c .before .before .before .before .before .before .before .before .before .before .put-part2 .ensures) (c .before .before .before .before .before .before .put-byte2 .ensures) (c .before .before .put-part3 .ensures)
 
@@ -31,10 +25,10 @@ pub put-spec : {M : Type 1} → statement M
 put-spec =
     tie.close
     (tie.spec
-    put-part-requires
-    put-byte-requires
-    put-part-requires-2
-    put-byte-requires-2
-    put-part-requires-3
-    same-length
+    (λ c κs. omega (arith, (c .before .before .pre), length-version (c .before .before .args .version)))  -- major
+    put-byte-requires  -- a dot
+    put-part-requires-2  -- minor
+    put-byte-requires-2  -- a dot
+    put-part-requires-3  -- patch
+    (λ c. search needs)
     returns)
