@@ -76,7 +76,3 @@ module _ (b o : List ℕ) (n : ℕ) (e : n ≡ length b) where
       let z : 0 + length b ≡ length b = omega arith in
       let g : placed 0 b o ≡ laid b o = rw z in
       ap (wrote (Bytes n)) (f .puts ∙ g) ∙ rw (← e, le-leb n (length o) h)
-
--- the bytes that were put are the buffer's first ones
-pub put-front : (b o : List ℕ) → take (length b) (laid b o) ≡ b
-put-front b o = take-at b (drop (length b) o) (length b) refl

@@ -1,7 +1,7 @@
 -- Version strings there and back: what is written of a version with major 1 to 255 and the others 0 to 255 is read as that version, and every text
 -- that is read as a version is what is written of it. By the digits of each part and the first dot of each text. Assumes nothing.
 use Prim.Native.Nat.{ℕ, suc, _+_, _-_, _*_, _/_, _%_, _^_, _≤_, _<_, min}
-use mathlib.Core.Path.{_≡_, refl, ap, _∙_, sym, subst}
+use mathlib.Core.Path.{_≡_, refl, ap, _∙_, sym}
 use mathlib.Core.Bool.{Bool, true, false, not, _&&_}
 use mathlib.Core.List.{List, [], _∷_, _++_}
 use mathlib.Core.Logic.{_⊎_, inl, inr, ⊎-elim}
@@ -207,10 +207,6 @@ module _ (t : List ℕ) (v : Version) (e : versionOf t ≡ Good v) where
   parts : InRange a b c × (version a b c ≡ v)
   unfolding versionOf
   parts = good-parts a b c v e
-
-  -- a good version's numbers are in range
-  pub read-range : InRange (v .major) (v .minor) (v .patch)
-  read-range = subst (λ (w : Version). InRange (w .major) (w .minor) (w .patch)) (parts .1) (parts .0)
 
   text-parts : versionText (version a b c) ≡ t
   unfolding versionText

@@ -49,18 +49,7 @@ module _ (x y : ℕ) (r s : Bool) where
       (λ h. (h, sym (same x y r h) ∙ e, sym (same y x s (sym h)) ∙ f))
       (λ h. never (sym e ∙ above x y r h))
 
-  number-on : (z : ℕ) (t : Bool) → (r ≡ true → s ≡ true → t ≡ true) → belowOr x y r ≡ true → belowOr y z s ≡ true → belowOr x z t ≡ true
-  number-on z t f d e =
-      order x y
-      (λ h. order y z (λ k. below x z t (omega arith)) (λ k. below x z t (omega arith)) (λ k. never (sym e ∙ above y z s k)))
-      (λ h.
-      order y z
-      (λ k. below x z t (omega arith))
-      (λ k. same x z t (h ∙ k) ∙ f (sym (same x y r h) ∙ d) (sym (same y z s k) ∙ e))
-      (λ k. never (sym e ∙ above y z s k)))
-      (λ h. never (sym d ∙ above x y r h))
-
--- the order of versions: of any two one is at most the other; both only if they are the same; and it goes on
+-- the order of versions: of any two one is at most the other; both only if they are the same
 pub at-most-self : (a : Version) → atMost a a ≡ true
 unfolding atMost
 at-most-self a = same (a .major) (a .major) _ refl ∙ same (a .minor) (a .minor) _ refl ∙ le-leb (a .patch) (a .patch) (omega arith)
@@ -81,13 +70,6 @@ at-most-both a b e f =
   where
     equal : a .major ≡ b .major → a .minor ≡ b .minor → a .patch ≡ b .patch → version (a .major) (a .minor) (a .patch) ≡ version (b .major) (b .minor) (b .patch)
     equal p q r = rw (p, q, r)
-
-pub at-most-on : (a b c : Version) → atMost a b ≡ true → atMost b c ≡ true → atMost a c ≡ true
-unfolding atMost
-at-most-on a b c =
-    number-on (a .major) (b .major) _ _ (c .major) _
-    (number-on (a .minor) (b .minor) _ _ (c .minor) _
-    (λ e f. le-leb (a .patch) (c .patch) (omega (arith, leb-true (a .patch) (b .patch) e, leb-true (b .patch) (c .patch) f))))
 
 -- the lesser of two versions
 module _ (a b : Version) where
