@@ -4,8 +4,5 @@ use borrow.Author.Needs.{needs}
 use Rattle.payload.proofs.answered.Statement.{statement}
 use Rattle.payload.proofs.answered.Tie as tie
 
-returns-2 : tie.Need-returns-2
-returns-2 c = rw (c .before .walk2 .given .1)
-
 pub answered-spec : {M : Type 1} → statement M
-answered-spec = tie.close (tie.spec (λ c. search needs) (λ c. search needs) (λ c. rw (c .before .walk .given .1)) returns-2)
+answered-spec = tie.close (tie.spec (λ c. search needs) (λ c. search needs) (λ c. rw (c .before .walk .given .1)) (λ c. rw (c .before .walk2 .given .1)))

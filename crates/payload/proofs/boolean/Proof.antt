@@ -6,9 +6,6 @@ use borrow.Author.Needs.{needs}
 use Rattle.payload.proofs.boolean.Statement.{statement}
 use Rattle.payload.proofs.boolean.Tie as tie
 
-returns-3 : tie.Need-returns-3
-returns-3 c = boolean-bad _ _ _ (omega arith) (omega arith)
-
 pub boolean-spec : {M : Type 1} → statement M
 boolean-spec =
     tie.close
@@ -16,4 +13,4 @@ boolean-spec =
     (λ c. boolean-past _ _ _ (omega arith))  -- past its document
     (λ c. search needs)  -- bytes[value]
     (λ c. search needs) (λ c. boolean-good _ _ _ (omega arith) (omega arith))  -- To(value + 1)
-    returns-3)  -- another byte
+    (λ c. boolean-bad _ _ _ (omega arith) (omega arith)))  -- another byte

@@ -13,9 +13,6 @@ returns-4 c =
     c .answered .ensures
     ∙ payload-walked _ (λ z. omega arith) _ (c .before .before .before .before .le4 .ensures) (omega arith) (omega arith) (omega arith) _ _ _ (c .before .document .ensures) refl (c .before .before .no-tags2 .ensures)
 
-returns-5 : tie.Need-returns-5
-returns-5 c = payload-other-length _ (λ z. omega arith) _ (c .before .le4 .ensures) (omega arith) (omega arith) (λ z. omega arith)
-
 pub read-spec : {M : Type 1} → statement M
 read-spec =
     tie.close
@@ -25,4 +22,4 @@ read-spec =
     (λ c κs. search needs) (λ c. search needs)  -- le4(bytes, 0)
     (λ c κs. search needs) (λ c κs. search needs) (λ c κs. search needs)  -- answered(document(..))
     returns-4
-    returns-5)  -- another length
+    (λ c. payload-other-length _ (λ z. omega arith) _ (c .before .le4 .ensures) (omega arith) (omega arith) (λ z. omega arith)))  -- another length

@@ -6,9 +6,6 @@ use borrow.Author.Needs.{needs}
 use Rattle.payload.proofs.string.Statement.{statement}
 use Rattle.payload.proofs.string.Tie as tie
 
-returns-5 : tie.Need-returns-5
-returns-5 c = string-not-closed _ _ _ _ (c .before .before .before .before .le4 .ensures) (omega arith) (omega arith) (omega arith) (λ z. omega arith)
-
 pub string-spec : {M : Type 1} → statement M
 string-spec =
     tie.close
@@ -19,4 +16,4 @@ string-spec =
     (λ c. search needs) (λ c. search needs) (λ c. string-past _ _ _ _ (c .before .before .le4 .ensures) (omega arith) (omega arith) (omega arith))  -- past its document
     (λ c. search needs) (λ c. search needs) (λ c. search needs)  -- bytes[value + 3 + counted]
     (λ c. search needs) (λ c. search needs) (λ c. string-closed _ _ _ _ (c .before .before .before .before .le4 .ensures) (omega arith) (omega arith) (omega arith) (omega arith))  -- To(value + 4 + counted)
-    returns-5)  -- not closed
+    (λ c. string-not-closed _ _ _ _ (c .before .before .before .before .le4 .ensures) (omega arith) (omega arith) (omega arith) (λ z. omega arith)))  -- not closed

@@ -4,12 +4,9 @@ use borrow.Author.Needs.{needs}
 use Rattle.payload.proofs.tag_at.Statement.{statement}
 use Rattle.payload.proofs.tag_at.Tie as tie
 
-returns-2 : tie.Need-returns-2
-returns-2 c = search needs
-
 pub tag-at-spec : {M : Type 1} → statement M
 tag-at-spec =
     tie.close
     (tie.spec
     (λ c. search needs) (λ c. search needs) (λ c. search needs) (λ c κs. search needs)  -- tag_of(&bytes[key..stop])
-    (λ c. rw (c .before .before .if1 .taken) (c .tag-of .ensures)) returns-2)
+    (λ c. rw (c .before .before .if1 .taken) (c .tag-of .ensures)) (λ c. search needs))

@@ -4,9 +4,6 @@ use borrow.Author.Needs.{needs}
 use Rattle.payload.proofs.with_tag.Statement.{statement}
 use Rattle.payload.proofs.with_tag.Tie as tie
 
-returns-5 : tie.Need-returns-5
-returns-5 c = rw (c .enum-told5 .given .1)
-
 pub with-tag-spec : {M : Type 1} → statement M
 with-tag-spec =
     tie.close
@@ -20,4 +17,4 @@ with-tag-spec =
     (λ c. rw ((c .before .enum-told2 .given .1), (c .string-at .ensures)))
     (λ c. rw ((c .before .enum-told3 .given .1), (c .hash-at .ensures)))
     (λ c. rw ((c .before .enum-told4 .given .1), (c .mtu-at .ensures)))
-    returns-5)
+    (λ c. rw (c .enum-told5 .given .1)))

@@ -5,8 +5,5 @@ use borrow.Author.Needs.{needs}
 use Rattle.payload.proofs.append.put_byte.Statement.{statement}
 use Rattle.payload.proofs.append.put_byte.Tie as tie
 
-returns : tie.Need-returns
-returns c = byte-put _ _ _ (c .pre)
-
 pub put-byte-spec : {M : Type 1} → statement M
-put-byte-spec = tie.close (tie.spec (λ c. search needs) (λ c. search needs) (λ c. search needs) returns)
+put-byte-spec = tie.close (tie.spec (λ c. search needs) (λ c. search needs) (λ c. search needs) (λ c. byte-put _ _ _ (c .pre)))

@@ -6,8 +6,5 @@ use borrow.Author.Needs.{needs}
 use Rattle.payload.proofs.append.put_eight.Statement.{statement}
 use Rattle.payload.proofs.append.put_eight.Tie as tie
 
-returns : tie.Need-returns
-returns c = number-put 8 _ _ _ _ (length-le 8 (c .before .before .before .before .before .args .x)) (c .before .before .before .before .before .pre) (c .before .before .put-le8 .ensures)
-
 pub put-eight-spec : {M : Type 1} → statement M
-put-eight-spec = tie.close (tie.spec (λ c κs. search needs) (λ c. search needs) (λ c. search needs) returns)
+put-eight-spec = tie.close (tie.spec (λ c κs. search needs) (λ c. search needs) (λ c. search needs) (λ c. number-put 8 _ _ _ _ (length-le 8 (c .before .before .before .before .before .args .x)) (c .before .before .before .before .before .pre) (c .before .before .put-le8 .ensures)))

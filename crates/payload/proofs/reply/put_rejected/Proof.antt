@@ -11,9 +11,6 @@ use borrow.Author.Needs.{needs}
 use Rattle.payload.proofs.reply.put_rejected.Statement.{statement}
 use Rattle.payload.proofs.reply.put_rejected.Tie as tie
 
-put-four-requires : tie.Need-put-four-requires
-put-four-requires c κs = omega (arith, (c .before .before .before .before .before .before .before .before .pre .0), (c .before .before .before .put-head .ensures .ends), length-head 4 rejectedParams)
-
 put-string-requires : tie.Need-put-string-requires
 put-string-requires c κs = (omega (arith, (c .before .before .before .before .before .before .before .before .before .before .before .before .before .pre .0), (c .before .before .before .before .put-four .ensures .ends), length-le 4 (length (c .before .before .before .before .before .before .before .before .before .before .before .before .before .args .name .now) + 13), (c .before .before .before .before .before .before .before .before .put-head .ensures .ends), length-head 4 rejectedParams), (c .before .before .before .before .before .before .before .before .before .before .before .before .before .pre .1))
 
@@ -28,7 +25,7 @@ put-rejected-spec =
     tie.close
     (tie.spec
     (λ c. search needs) (λ c κs. search needs)  -- put_head
-    (λ c. search needs) (λ c. search needs) put-four-requires  -- put_four
+    (λ c. search needs) (λ c. search needs) (λ c κs. omega (arith, (c .before .before .before .before .before .before .before .before .pre .0), (c .before .before .before .put-head .ensures .ends), length-head 4 rejectedParams))  -- put_four
     (λ c. search needs) put-string-requires  -- put_string
     put-byte-requires  -- put_byte
     (λ c. search needs)

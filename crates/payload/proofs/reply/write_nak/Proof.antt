@@ -5,9 +5,6 @@ use borrow.Author.Needs.{needs}
 use Rattle.payload.proofs.reply.write_nak.Statement.{statement}
 use Rattle.payload.proofs.reply.write_nak.Tie as tie
 
-returns-2 : tie.Need-returns-2
-returns-2 c = rw ((c .before .before .before .before .before .enum-told2 .given .1)) (c .before .before .write-rejected2 .ensures)
-
 pub write-nak-spec : {M : Type 1} → statement M
 write-nak-spec =
     tie.close
@@ -17,4 +14,4 @@ write-nak-spec =
     (λ c. search needs)
     (λ c. rw ((c .before .before .before .before .before .enum-told .given .1)) (c .before .before .write-rejected .ensures))
     (λ c. search needs)
-    returns-2)
+    (λ c. rw ((c .before .before .before .before .before .enum-told2 .given .1)) (c .before .before .write-rejected2 .ensures)))

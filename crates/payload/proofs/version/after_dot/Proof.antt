@@ -5,9 +5,6 @@ use borrow.Author.Needs.{needs}
 use Rattle.payload.proofs.version.after_dot.Statement.{statement}
 use Rattle.payload.proofs.version.after_dot.Tie as tie
 
-returns-2 : tie.Need-returns-2
-returns-2 c = after-found (c .before .before .before .before .args .text .now) (c .before .before .find .result) (c .before .before .find .ensures .0)
-
 pub after-dot-spec : {M : Type 1} → statement M
 after-dot-spec =
     tie.close
@@ -16,4 +13,4 @@ after-dot-spec =
     (λ c. search needs) (λ c. search needs) (λ c. search needs)  -- &text[dot..end]
     (λ c. after-none (c .before .before .before .before .args .text .now) (c .before .before .find .result) (c .before .before .find .ensures .0) (c .before .if1 .taken))
     (λ c. search needs) (λ c. search needs) (λ c. search needs) (λ c. search needs)  -- &text[dot + 1..end]
-    returns-2)
+    (λ c. after-found (c .before .before .before .before .args .text .now) (c .before .before .find .result) (c .before .before .find .ensures .0)))

@@ -5,8 +5,5 @@ use Rattle.payload.proofs.Versions.{by-major, by-minor, by-patch}
 use Rattle.payload.proofs.version.at_most.Statement.{statement}
 use Rattle.payload.proofs.version.at_most.Tie as tie
 
-returns-3 : tie.Need-returns-3
-returns-3 c = by-patch _ _ (omega arith) (omega arith)
-
 pub at-most-spec : {M : Type 1} → statement M
-at-most-spec = tie.close (tie.spec (λ c. by-major _ _ (λ z. omega arith)) (λ c. by-minor _ _ (omega arith) (λ z. omega arith)) returns-3)
+at-most-spec = tie.close (tie.spec (λ c. by-major _ _ (λ z. omega arith)) (λ c. by-minor _ _ (omega arith) (λ z. omega arith)) (λ c. by-patch _ _ (omega arith) (omega arith)))

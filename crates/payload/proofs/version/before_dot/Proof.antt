@@ -5,8 +5,5 @@ use borrow.Author.Needs.{needs}
 use Rattle.payload.proofs.version.before_dot.Statement.{statement}
 use Rattle.payload.proofs.version.before_dot.Tie as tie
 
-returns : tie.Need-returns
-returns c = before-found (c .before .before .before .args .text .now) (c .before .find .result) (c .before .find .ensures .0)
-
 pub before-dot-spec : {M : Type 1} → statement M
-before-dot-spec = tie.close (tie.spec (λ c κs. search needs) (λ c. search needs) (λ c. search needs) (λ c. search needs) returns)
+before-dot-spec = tie.close (tie.spec (λ c κs. search needs) (λ c. search needs) (λ c. search needs) (λ c. search needs) (λ c. before-found (c .before .before .before .args .text .now) (c .before .find .result) (c .before .find .ensures .0)))

@@ -6,13 +6,10 @@ use borrow.Author.Needs.{needs}
 use Rattle.payload.proofs.version.from_parts.Statement.{statement}
 use Rattle.payload.proofs.version.from_parts.Tie as tie
 
-returns-5 : tie.Need-returns-5
-returns-5 c = parts-good _ _ _ (omega arith) (omega arith) (omega arith) (omega arith)
-
 pub from-parts-spec : {M : Type 1} → statement M
 from-parts-spec =
     tie.close
     (tie.spec
     (λ c. parts-bad _ _ _ (λ p q r s. omega arith)) (λ c. parts-bad _ _ _ (λ p q r s. omega arith)) (λ c. parts-bad _ _ _ (λ p q r s. omega arith)) (λ c. parts-bad _ _ _ (λ p q r s. omega arith))  -- Bad
     (λ c. search needs) (λ c. search needs) (λ c. search needs)  -- major, minor, patch
-    returns-5)  -- Good
+    (λ c. parts-good _ _ _ (omega arith) (omega arith) (omega arith) (omega arith)))  -- Good

@@ -6,29 +6,14 @@ use borrow.Author.Needs.{needs}
 use Rattle.payload.proofs.version.part.Statement.{statement}
 use Rattle.payload.proofs.version.part.Tie as tie
 
-returns : tie.Need-returns
-unfolding partOf
-returns c = rw (sym (c .before .spare-zero .ensures) ∙ (c .if1 .taken))
-
-returns-2 : tie.Need-returns-2
-unfolding partOf
-returns-2 c = rw (sym (c .before .before .before .before .before .before .spare-zero .ensures) ∙ (c .before .before .before .before .before .if1 .left), sym (c .before .before .before .before .decimal-to-number .ensures) ∙ (c .before .before .n .given .1)) (c .least .ensures)
-
-returns-3 : tie.Need-returns-3
-unfolding partOf
-returns-3 c = rw (sym (c .before .before .before .before .spare-zero .ensures) ∙ (c .before .before .before .if1 .left), sym (c .before .before .decimal-to-number .ensures) ∙ (c .enum-told .given .1))
-
-returns-4 : tie.Need-returns-4
-unfolding partOf
-returns-4 c = rw (sym (c .before .before .before .before .spare-zero .ensures) ∙ (c .before .before .before .if1 .left), sym (c .before .before .decimal-to-number .ensures) ∙ (c .enum-told2 .given .1))
-
 pub part-spec : {M : Type 1} → statement M
+unfolding partOf
 part-spec =
     tie.close
     (tie.spec
     (λ c κs. search needs)  -- spare_zero
-    returns  -- NO_PART
+    (λ c. rw (sym (c .before .spare-zero .ensures) ∙ (c .if1 .taken)))  -- NO_PART
     (λ c κs. search needs)  -- decimal_to_number
     (λ c. search needs) (λ c κs. search needs)  -- Value(n)
     (λ c. search needs) (λ c. search needs)  -- NotDecimal, TooLarge
-    returns-2 returns-3 returns-4)
+    (λ c. rw (sym (c .before .before .before .before .before .before .spare-zero .ensures) ∙ (c .before .before .before .before .before .if1 .left), sym (c .before .before .before .before .decimal-to-number .ensures) ∙ (c .before .before .n .given .1)) (c .least .ensures)) (λ c. rw (sym (c .before .before .before .before .spare-zero .ensures) ∙ (c .before .before .before .if1 .left), sym (c .before .before .decimal-to-number .ensures) ∙ (c .enum-told .given .1))) (λ c. rw (sym (c .before .before .before .before .spare-zero .ensures) ∙ (c .before .before .before .if1 .left), sym (c .before .before .decimal-to-number .ensures) ∙ (c .enum-told2 .given .1))))

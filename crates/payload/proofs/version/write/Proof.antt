@@ -7,9 +7,6 @@ use borrow.Author.Needs.{needs}
 use Rattle.payload.proofs.version.write.Statement.{statement}
 use Rattle.payload.proofs.version.write.Tie as tie
 
-returns : tie.Need-returns
-returns c = too-small (versionText (c .before .before .before .args .version)) (c .before .before .before .args .out .now) (c .before .size .result) (c .before .size .ensures .0) (omega arith)
-
 returns-2 : tie.Need-returns-2
 returns-2 c = all-put (versionText (c .before .before .before .before .before .before .before .args .version)) (c .before .before .before .before .before .before .before .args .out .now) (c .before .before .before .before .before .size .result) (c .before .before .before .before .before .size .ensures .0) (omega arith) (c .before .before .put .ensures)
 
@@ -18,7 +15,7 @@ write-spec =
     tie.close
     (tie.spec
     (λ c κs. search needs)  -- end
-    returns  -- Refused
+    (λ c. too-small (versionText (c .before .before .before .args .version)) (c .before .before .before .args .out .now) (c .before .size .result) (c .before .size .ensures .0) (omega arith))  -- Refused
     (λ c κs. omega (arith, (c .before .before .size .ensures .0), (c .before .if1 .left)))  -- put
     (λ c. search needs)
     returns-2)  -- Bytes(end)
