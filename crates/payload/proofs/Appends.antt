@@ -67,12 +67,12 @@ filled b o at w l =
     rw m (append-nil b)
 
 -- what a public writer answers
-module _ (b o : List ℕ) (n : ℕ) (e : n ≡ length b) where
-  pub too-small : length o < n → wrote (Refused 11) o ≡ putOf b o
-  too-small h = rw (← e, lt-leb n (length o) h)
+module _ (b o : List ℕ) (k : ℕ) (e : length b ≡ k) where
+  pub too-small : length o < k → wrote (Refused 11) o ≡ putOf b o
+  too-small h = rw (e, lt-leb k (length o) h)
 
-  pub all-put : {m : ℕ} {q : List ℕ} → n ≤ length o → Appended 0 b o m q → wrote (Bytes n) q ≡ putOf b o
-  all-put h f =
+  pub all-put : {n m : ℕ} {q : List ℕ} → n ≡ k → k ≤ length o → Appended 0 b o m q → wrote (Bytes n) q ≡ putOf b o
+  all-put s h f =
       let z : 0 + length b ≡ length b = omega arith in
       let g : placed 0 b o ≡ laid b o = rw z in
-      ap (wrote (Bytes n)) (f .puts ∙ g) ∙ rw (← e, le-leb n (length o) h)
+      rw (s, f .puts, g, e, le-leb k (length o) h)

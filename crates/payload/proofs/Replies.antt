@@ -43,11 +43,6 @@ module _ (kind : ℕ) (key : List ℕ) where
   unfolding elementHead
   length-head = omega (arith, length-append key (0 ∷ []))
 
-  pub head-put : {at n₁ n₂ m : ℕ} {o p₁ p₂ q : List ℕ} → at + (length key + 2) ≤ length o
-      → Appended at (kind ∷ []) o n₁ p₁ → Appended n₁ key p₁ n₂ p₂ → Appended n₂ (0 ∷ []) p₂ m q → Appended at (elementHead kind key) o m q
-  unfolding elementHead
-  head-put room e₁ e₂ e₃ = more (kind ∷ key) (0 ∷ []) (omega arith) (more (kind ∷ []) key (omega arith) e₁ e₂) e₃
-
 -- a document around its elements
 module _ (elements : List ℕ) where
   pub length-document : length (document elements) ≡ length elements + 5
@@ -69,19 +64,9 @@ module _ (key : List ℕ) (x : ℕ) where
   unfolding int32Element
   length-int32 = length-append (elementHead 0x10 key) (bytesLe 4 x) ∙ omega (arith, length-head 0x10 key, length-le 4 x)
 
-  pub int32-put : {at n m : ℕ} {o p q : List ℕ} → at + (length key + 6) ≤ length o
-      → Appended at (elementHead 0x10 key) o n p → Appended n (bytesLe 4 x) p m q → Appended at (int32Element key x) o m q
-  unfolding int32Element
-  int32-put room e₁ e₂ = more (elementHead 0x10 key) (bytesLe 4 x) (omega (arith, length-head 0x10 key)) e₁ e₂
-
   pub length-int64 : length (int64Element key x) ≡ length key + 10
   unfolding int64Element
   length-int64 = length-append (elementHead 0x12 key) (bytesLe 8 x) ∙ omega (arith, length-head 0x12 key, length-le 8 x)
-
-  pub int64-put : {at n m : ℕ} {o p q : List ℕ} → at + (length key + 10) ≤ length o
-      → Appended at (elementHead 0x12 key) o n p → Appended n (bytesLe 8 x) p m q → Appended at (int64Element key x) o m q
-  unfolding int64Element
-  int64-put room e₁ e₂ = more (elementHead 0x12 key) (bytesLe 8 x) (omega (arith, length-head 0x12 key)) e₁ e₂
 
 module _ (key text : List ℕ) where
   pub length-string : length (stringElement key text) ≡ length key + length text + 7
@@ -109,19 +94,9 @@ module _ (h m : ℕ) where
   unfolding grantElements
   length-grant = length-append (int32Element hashId h) (int64Element mtu m) ∙ omega (arith, length-int32 hashId h, length-int64 mtu m)
 
-  pub grant-put : {at n k : ℕ} {o p q : List ℕ} → at + 25 ≤ length o
-      → Appended at (int32Element hashId h) o n p → Appended n (int64Element mtu m) p k q → Appended at (grantElements h m) o k q
-  unfolding grantElements
-  grant-put room e₁ e₂ = more (int32Element hashId h) (int64Element mtu m) (omega (arith, length-int32 hashId h)) e₁ e₂
-
   pub length-service-ack : length (serviceAckPayload h m) ≡ 30
   unfolding serviceAckPayload
   length-service-ack = omega (arith, length-document (grantElements h m), length-grant)
-
-  pub service-ack-put : {n₁ n₂ k : ℕ} {o p₁ p₂ q : List ℕ} → 30 ≤ length o
-      → Appended 0 (bytesLe 4 30) o n₁ p₁ → Appended n₁ (grantElements h m) p₁ n₂ p₂ → Appended n₂ (0 ∷ []) p₂ k q → Appended 0 (serviceAckPayload h m) o k q
-  unfolding serviceAckPayload
-  service-ack-put room = document-put (grantElements h m) 30 (omega (arith, length-grant)) (omega (arith, length-grant))
 
 -- the opening's ACK
 module _ (h m : ℕ) (v : Version) where
@@ -172,10 +147,25 @@ module _ (name : List ℕ) where
   unfolding nakPayload
   length-nak = omega (arith, length-document (rejectedElement name), length-rejected)
 
-  pub nak-put : {n₁ n₂ k : ℕ} {o p₁ p₂ q : List ℕ} → 34 + length name ≤ length o
-      → Appended 0 (bytesLe 4 (34 + length name)) o n₁ p₁ → Appended n₁ (rejectedElement name) p₁ n₂ p₂ → Appended n₂ (0 ∷ []) p₂ k q → Appended 0 (nakPayload name) o k q
-  unfolding nakPayload
-  nak-put room = document-put (rejectedElement name) (34 + length name) (omega (arith, length-rejected)) (omega (arith, length-rejected))
+-- where each piece ends, for `omega`, which finds the pieces by itself
+module _ (at n : ℕ) (o p : List ℕ) where
+  pub head-ends : (kind : ℕ) (key : List ℕ) → Appended at (elementHead kind key) o n p → n ≡ at + (length key + 2)
+  head-ends kind key e = omega (arith, length-head kind key)
+
+  pub number-ends : (w x : ℕ) → Appended at (bytesLe w x) o n p → n ≡ at + w
+  number-ends w x e = omega (arith, length-le w x)
+
+  pub int32-ends : (key : List ℕ) (x : ℕ) → Appended at (int32Element key x) o n p → n ≡ at + (length key + 6)
+  int32-ends key x e = omega (arith, length-int32 key x)
+
+  pub string-ends : (key text : List ℕ) → Appended at (stringElement key text) o n p → n ≡ at + (length key + length text + 7)
+  string-ends key text e = omega (arith, length-string key text)
+
+  pub grant-ends : (h m : ℕ) → Appended at (grantElements h m) o n p → n ≡ at + 25
+  grant-ends h m e = omega (arith, length-grant h m)
+
+  pub rejected-ends : (name : List ℕ) → Appended at (rejectedElement name) o n p → n ≡ at + (length name + 29)
+  rejected-ends name e = omega (arith, length-rejected name)
 
 -- the bytes put to the front of an array are its first ones
 pub text-back : (b : List ℕ) {o q : List ℕ} {n : ℕ} → Appended 0 b o n q → take (n - 0) (drop 0 q) ≡ b

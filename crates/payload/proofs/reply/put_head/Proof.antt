@@ -1,12 +1,18 @@
 -- `payload::reply::put_head` meets its contract: the type, the key and a 0, each right behind the last.
 -- Assumes nothing.
-use Rattle.payload.proofs.Replies.{head-put}
+use native.Mathlib.Omega.{arith}
+use mathlib.Core.List.{[], _∷_}
+use Rattle.payload.specs.Reply.{elementHead}
+use Rattle.payload.proofs.Appends.{more}
 use borrow.Author.Needs.{needs}
 use Rattle.payload.proofs.reply.put_head.Statement.{statement}
 use Rattle.payload.proofs.reply.put_head.Tie as tie
 
-returns : tie.Need-returns
-returns c = head-put (c .before .before .before .before .before .before .before .before .before .before .before .before .before .before .args .kind) (c .before .before .before .before .before .before .before .before .before .before .before .before .before .before .args .key .now) (c .before .before .before .before .before .before .before .before .before .before .before .before .before .before .pre) (c .before .before .before .before .before .before .before .before .before .before .put-byte .ensures) (c .before .before .before .before .before .before .put-bytes .ensures) (c .before .before .put-byte2 .ensures)
-
 pub put-head-spec : {M : Type 1} → statement M
-put-head-spec = tie.close (tie.spec (λ c κs. search needs) (λ c κs. search needs) (λ c κs. search needs) (λ c. search needs) returns)
+unfolding elementHead
+put-head-spec =
+    tie.close
+    (tie.spec
+    (λ c κs. search needs) (λ c κs. search needs) (λ c κs. search needs)  -- type, key, 0
+    (λ c. search needs)
+    (λ c. more (_ ∷ _) (0 ∷ []) (omega arith) (more (_ ∷ []) _ (omega arith) (c .before .before .before .before .before .before .before .before .before .before .put-byte .ensures) (c .before .before .before .before .before .before .put-bytes .ensures)) (c .before .before .put-byte2 .ensures)))

@@ -6,29 +6,14 @@ use borrow.Author.Needs.{needs}
 use Rattle.payload.proofs.version.put.Statement.{statement}
 use Rattle.payload.proofs.version.put.Tie as tie
 
-put-byte-requires : tie.Need-put-byte-requires
-put-byte-requires c κs = omega (arith, (c .before .before .before .before .before .before .pre), (c .before .before .before .put-part .ensures .ends), length-version (c .before .before .before .before .before .before .args .version))
-
-put-part-requires-2 : tie.Need-put-part-requires-2
-put-part-requires-2 c κs = omega (arith, (c .before .before .before .before .before .before .before .before .before .before .pre), (c .before .before .before .put-byte .ensures .ends), (c .before .before .before .before .before .before .before .put-part .ensures .ends), length-version (c .before .before .before .before .before .before .before .before .before .before .args .version))
-
-put-byte-requires-2 : tie.Need-put-byte-requires-2
-put-byte-requires-2 c κs = omega (arith, (c .before .before .before .before .before .before .before .before .before .before .before .before .before .before .pre), (c .before .before .before .put-part2 .ensures .ends), (c .before .before .before .before .before .before .before .put-byte .ensures .ends), (c .before .before .before .before .before .before .before .before .before .before .before .put-part .ensures .ends), length-version (c .before .before .before .before .before .before .before .before .before .before .before .before .before .before .args .version))
-
-put-part-requires-3 : tie.Need-put-part-requires-3
-put-part-requires-3 c κs = omega (arith, (c .before .before .before .before .before .before .before .before .before .before .before .before .before .before .before .before .before .before .pre), (c .before .before .before .put-byte2 .ensures .ends), (c .before .before .before .before .before .before .before .put-part2 .ensures .ends), (c .before .before .before .before .before .before .before .before .before .before .before .put-byte .ensures .ends), (c .before .before .before .before .before .before .before .before .before .before .before .before .before .before .before .put-part .ensures .ends), length-version (c .before .before .before .before .before .before .before .before .before .before .before .before .before .before .before .before .before .before .args .version))
-
-returns : tie.Need-returns
-returns c = version-put (c .before .before .before .before .before .before .before .before .before .before .before .before .before .before .before .before .before .before .before .before .before .args .version) (c .before .before .before .before .before .before .before .before .before .before .before .before .before .before .before .before .before .before .before .before .before .pre) (c .before .before .before .before .before .before .before .before .before .before .before .before .before .before .before .before .before .before .put-part .ensures) (c .before .before .before .before .before .before .before .before .before .before .before .before .before .before .put-byte .ensures) (c .before .before .before .before .before .before .before .before .before .before .put-part2 .ensures) (c .before .before .before .before .before .before .put-byte2 .ensures) (c .before .before .put-part3 .ensures)
-
 pub put-spec : {M : Type 1} → statement M
 put-spec =
     tie.close
     (tie.spec
-    (λ c κs. omega (arith, (c .before .before .pre), length-version (c .before .before .args .version)))  -- major
-    put-byte-requires  -- a dot
-    put-part-requires-2  -- minor
-    put-byte-requires-2  -- a dot
-    put-part-requires-3  -- patch
+    (λ c κs. omega (arith, length-version (c .before .before .args .version)))  -- major
+    (λ c κs. omega (arith, length-version (c .before .before .before .before .before .before .args .version)))  -- a dot
+    (λ c κs. omega (arith, length-version (c .before .before .before .before .before .before .before .before .before .before .args .version)))  -- minor
+    (λ c κs. omega (arith, length-version (c .before .before .before .before .before .before .before .before .before .before .before .before .before .before .args .version)))  -- a dot
+    (λ c κs. omega (arith, length-version (c .before .before .before .before .before .before .before .before .before .before .before .before .before .before .before .before .before .before .args .version)))  -- patch
     (λ c. search needs)
-    returns)
+    (λ c. version-put _ (c .before .before .before .before .before .before .before .before .before .before .before .before .before .before .before .before .before .before .before .before .before .pre) (c .before .before .before .before .before .before .before .before .before .before .before .before .before .before .before .before .before .before .put-part .ensures) (c .before .before .before .before .before .before .before .before .before .before .before .before .before .before .put-byte .ensures) (c .before .before .before .before .before .before .before .before .before .before .put-part2 .ensures) (c .before .before .before .before .before .before .put-byte2 .ensures) (c .before .before .put-part3 .ensures)))
