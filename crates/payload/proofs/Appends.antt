@@ -7,7 +7,7 @@ use native.Mathlib.Numerals.{add-one}
 use native.Mathlib.Omega.{arith}
 use borrow.Author.Tests.{le-leb, lt-leb}
 use borrow.Rule.Slice.PartMut.{putMid}
-use lib.ListN.{length, take, drop, set, length-append, length-take, length-drop, drop-of-length-le}
+use lib.ListN.{length, take, drop, set, length-append, length-take, drop-of-length-le}
 use lib.Seq.{length-take-le, take-all, take-at, drop-at, drop-drop, set-split, paste}
 use Rattle.numbers.specs.Bytes.{part, putAt, laid}
 use Rattle.numbers.proofs.Laws.{put-fits}
@@ -30,11 +30,9 @@ module _ (a b : List ℕ) {at n m : ℕ} {o p q : List ℕ} (room : at + length 
         puts = f .puts ∙ rw (near, far, append-assoc, append-assoc);
       }
 
--- the buffer keeps its length
-pub kept : (a : List ℕ) {at n : ℕ} {o p : List ℕ} → at + length a ≤ length o → Appended at a o n p → length p ≡ length o
-kept a {at} {o = o} room e =
-    let r = drop (at + length a) o in
-    ap length (e .puts) ∙ length-append (take at o) (a ++ r) ∙ omega (arith, length-append a r, length-take-le at o (omega arith), length-drop (at + length a) o)
+-- the same, by where the first piece ends
+pub next : {a b : List ℕ} {at n m : ℕ} {o p q : List ℕ} → n ≤ length o → Appended at a o n p → Appended n b p m q → Appended at (a ++ b) o m q
+next {a} {b} h e f = more a b (omega arith) e f
 
 -- the same bytes under another name
 pub renamed : {a b : List ℕ} {at m : ℕ} {o q : List ℕ} → a ≡ b → Appended at a o m q → Appended at b o m q

@@ -14,7 +14,7 @@ use Rattle.lines.specs.Decimal.{digitsBy, decimalOf}
 use Rattle.payload.specs.Version.{version, versionText}
 use Rattle.payload.specs.Reply.{firstKey, elementHead, document, int32Element, int64Element, stringElement, arrayElement, grantElements, rejectedElement, ackPayload, serviceAckPayload, nakPayload}
 use Rattle.payload.specs.declared.version.Version.{Version}
-use Rattle.payload.proofs.Appends.{more, renamed, kept}
+use Rattle.payload.proofs.Appends.{next, renamed}
 use Rattle.payload.proofs.Versions.{version-most}
 
 -- "Payload for "5.4.1": `20 00 00 00 02`, "protocolVersion" and 0, `06 00 00 00`, "5.4.1", two zeros: 32 bytes."; the ACK's payload with it, for
@@ -49,15 +49,10 @@ module _ (elements : List ℕ) where
   unfolding document
   length-document = simp (length-append, length-le) (omega arith)
 
-  pub document-put : {at n₁ n₂ m : ℕ} {o p₁ p₂ q : List ℕ} (size : ℕ) → size ≡ 5 + length elements → at + (length elements + 5) ≤ length o
+  pub document-put : {at n₁ n₂ m : ℕ} {o p₁ p₂ q : List ℕ} (size : ℕ) → size ≡ 5 + length elements → n₂ ≤ length o
       → Appended at (bytesLe 4 size) o n₁ p₁ → Appended n₁ elements p₁ n₂ p₂ → Appended n₂ (0 ∷ []) p₂ m q → Appended at (document elements) o m q
   unfolding document
-  document-put size z room e₁ e₂ e₃ =
-      let s = bytesLe 4 (5 + length elements) in
-      let l : length s ≡ 4 = length-le 4 (5 + length elements) in
-      let k : length (s ++ elements) ≡ 4 + length elements = length-append s elements ∙ omega arith in
-      let e : Appended _ s _ _ _ = rw z at e₁ in
-      renamed (append-assoc s elements (0 ∷ [])) (more (s ++ elements) (0 ∷ []) (omega arith) (more s elements (omega arith) e e₂) e₃)
+  document-put size z room e₁ e₂ e₃ = renamed (append-assoc (bytesLe 4 (5 + length elements)) elements (0 ∷ [])) (next room (next (omega arith) (rw z at e₁) e₂) e₃)
 
 module _ (key : List ℕ) (x : ℕ) where
   pub length-int32 : length (int32Element key x) ≡ length key + 6
@@ -72,21 +67,6 @@ module _ (key text : List ℕ) where
   pub length-string : length (stringElement key text) ≡ length key + length text + 7
   unfolding stringElement
   length-string = simp (length-append, length-le) (omega (arith, length-head 0x02 key))
-
-  pub string-put : {at n₁ n₂ n₃ m : ℕ} {o p₁ p₂ p₃ q : List ℕ} (size : ℕ) → size ≡ length text + 1 → at + (length key + length text + 7) ≤ length o
-      → Appended at (elementHead 0x02 key) o n₁ p₁ → Appended n₁ (bytesLe 4 size) p₁ n₂ p₂ → Appended n₂ text p₂ n₃ p₃ → Appended n₃ (0 ∷ []) p₃ m q
-      → Appended at (stringElement key text) o m q
-  unfolding stringElement
-  string-put size z room e₁ e₂ e₃ e₄ =
-      let h = elementHead 0x02 key in
-      let s = bytesLe 4 (length text + 1) in
-      let lh = length-head 0x02 key in
-      let ls : length s ≡ 4 = length-le 4 (length text + 1) in
-      let e : Appended _ s _ _ _ = rw z at e₂ in
-      let l₂ : length (h ++ s) ≡ length key + 6 = length-append h s ∙ omega arith in
-      let l₃ : length ((h ++ s) ++ text) ≡ length key + 6 + length text = length-append (h ++ s) text ∙ omega arith in
-      renamed (simp append-assoc)
-      (more ((h ++ s) ++ text) (0 ∷ []) (omega arith) (more (h ++ s) text (omega arith) (more h s (omega arith) e₁ e) e₃) e₄)
 
 -- hashId and mtu
 module _ (h m : ℕ) where
@@ -113,16 +93,6 @@ module _ (h m : ℕ) (v : Version) where
   pub ack-most : v .major < 256 → v .minor < 256 → v .patch < 256 → length (ackPayload h m v) ≤ 63
   ack-most a b c = omega (arith, length-ack, version-most v a b c)
 
-  pub ack-put : {n₁ n₂ n₃ k size : ℕ} {o p₁ p₂ p₃ q : List ℕ} → size ≡ length (versionText v) → 52 + size ≤ length o
-      → Appended 0 (bytesLe 4 (52 + size)) o n₁ p₁ → Appended n₁ (grantElements h m) p₁ n₂ p₂
-      → Appended n₂ (stringElement protocolVersion (versionText v)) p₂ n₃ p₃ → Appended n₃ (0 ∷ []) p₃ k q → Appended 0 (ackPayload h m v) o k q
-  unfolding ackPayload
-  ack-put {size = size} z room e₁ e₂ e₃ e₄ =
-      let l = length-le 4 (52 + size) in
-      let k = kept (bytesLe 4 (52 + size)) (omega arith) e₁ in
-      document-put tags (52 + size) (omega (arith, length-tags)) (omega (arith, length-tags)) e₁
-      (more (grantElements h m) (stringElement protocolVersion (versionText v)) (omega (arith, length-grant h m)) e₂ e₃) e₄
-
 -- a NAK
 module _ (name : List ℕ) where
   pub length-rejected : length (rejectedElement name) ≡ length name + 29
@@ -130,18 +100,6 @@ module _ (name : List ℕ) where
   length-rejected =
       length-append (elementHead 0x04 rejectedParams) (document (stringElement firstKey name))
       ∙ omega (arith, length-head 0x04 rejectedParams, length-document (stringElement firstKey name), length-string firstKey name)
-
-  pub rejected-put : {at n₁ n₂ n₃ k : ℕ} {o p₁ p₂ p₃ q : List ℕ} → at + (length name + 29) ≤ length o
-      → Appended at (elementHead 0x04 rejectedParams) o n₁ p₁ → Appended n₁ (bytesLe 4 (length name + 13)) p₁ n₂ p₂
-      → Appended n₂ (stringElement firstKey name) p₂ n₃ p₃ → Appended n₃ (0 ∷ []) p₃ k q → Appended at (rejectedElement name) o k q
-  unfolding rejectedElement arrayElement
-  rejected-put room e₁ e₂ e₃ e₄ =
-      let h = elementHead 0x04 rejectedParams in
-      let s = stringElement firstKey name in
-      let lh = length-head 0x04 rejectedParams in
-      let ls = length-string firstKey name in
-      let k = kept h (omega arith) e₁ in
-      more h (document s) (omega arith) e₁ (document-put s (length name + 13) (omega arith) (omega arith) e₂ e₃ e₄)
 
   pub length-nak : length (nakPayload name) ≡ 34 + length name
   unfolding nakPayload

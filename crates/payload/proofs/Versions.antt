@@ -4,7 +4,7 @@
 use Prim.Native.Nat.{ℕ, _+_, _-_, _/_, _≤_, _<_}
 use mathlib.Core.Path.{_≡_, refl, ap, _∙_, sym}
 use mathlib.Core.Bool.{not, _&&_, or-false}
-use mathlib.Core.List.{List, [], _∷_, _++_, append-assoc}
+use mathlib.Core.List.{List}
 use native.Mathlib.Omega.{arith}
 use lib.Dec.{eqb, leb, ltb}
 use borrow.Author.Tests.{eq-eqb, ne-eqb, le-leb, le-ltb, ltb-true, ltb-false, leb-true, eqb-false, not-true}
@@ -18,12 +18,11 @@ use Rattle.lines.specs.declared.Encoded.{Encoded}
 use Rattle.lines.specs.declared.Encoded.the-variants.{Chars}
 use Rattle.lines.proofs.Digits.{width-one, width-step}
 use Rattle.numbers.specs.Bytes.{part, laid}
-use Rattle.payload.specs.Append.{Appended}
 use Rattle.payload.specs.Version.{version, beforeDot, afterDot, versionFrom, versionText, atMost}
 use Rattle.payload.specs.declared.version.Version.{Version}
 use Rattle.payload.specs.declared.version.VersionText.{VersionText}
 use Rattle.payload.specs.declared.version.VersionText.the-variants.{Good, Bad}
-use Rattle.payload.proofs.Appends.{more, renamed, filled}
+use Rattle.payload.proofs.Appends.{filled}
 
 -- the place of the first dot, found in the whole text
 module _ (text : List ℕ) (r : ℕ) (e : r ≡ 0 + indexOf 46 (slice 0 (length text) text)) where
@@ -86,20 +85,6 @@ module _ (v : Version) where
 
   pub version-most : v .major < 256 → v .minor < 256 → v .patch < 256 → length (versionText v) ≤ 11
   version-most a b c = omega (arith, length-version, digits-most (v .major) a, digits-most (v .minor) b, digits-most (v .patch) c)
-
-  pub version-put : {at n₁ n₂ n₃ n₄ m : ℕ} {o p₁ p₂ p₃ p₄ q : List ℕ} → at + length (versionText v) ≤ length o
-      → Appended at (decimalOf (v .major)) o n₁ p₁ → Appended n₁ (46 ∷ []) p₁ n₂ p₂ → Appended n₂ (decimalOf (v .minor)) p₂ n₃ p₃
-      → Appended n₃ (46 ∷ []) p₃ n₄ p₄ → Appended n₄ (decimalOf (v .patch)) p₄ m q → Appended at (versionText v) o m q
-  unfolding versionText
-  version-put room e₁ e₂ e₃ e₄ e₅ =
-      let a = decimalOf (v .major) in
-      let b = decimalOf (v .minor) in
-      let c = decimalOf (v .patch) in
-      renamed (simp append-assoc)
-      (more (a ++ (46 ∷ []) ++ b ++ (46 ∷ [])) c (simp length-append (omega (arith, length-version)))
-      (more (a ++ (46 ∷ []) ++ b) (46 ∷ []) (simp length-append (omega (arith, length-version)))
-      (more (a ++ (46 ∷ [])) b (simp length-append (omega (arith, length-version)))
-      (more a (46 ∷ []) (omega (arith, length-version)) e₁ e₂) e₃) e₄) e₅)
 
 -- three parts: good where all are in range, bad where that is refuted
 module _ (a b c : ℕ) where

@@ -1,9 +1,8 @@
 -- `payload::reply::put_head` meets its contract: the type, the key and a 0, each right behind the last.
 -- Assumes nothing.
 use native.Mathlib.Omega.{arith}
-use mathlib.Core.List.{[], _∷_}
 use Rattle.payload.specs.Reply.{elementHead}
-use Rattle.payload.proofs.Appends.{more}
+use Rattle.payload.proofs.Appends.{next}
 use borrow.Author.Needs.{needs}
 use Rattle.payload.proofs.reply.put_head.Statement.{statement}
 use Rattle.payload.proofs.reply.put_head.Tie as tie
@@ -15,4 +14,4 @@ put-head-spec =
     (tie.spec
     (λ c κs. search needs) (λ c κs. search needs) (λ c κs. search needs)  -- type, key, 0
     (λ c. search needs)
-    (λ c. more (_ ∷ _) (0 ∷ []) (omega arith) (more (_ ∷ []) _ (omega arith) (c .before .before .before .before .before .before .before .before .before .before .put-byte .ensures) (c .before .before .before .before .before .before .put-bytes .ensures)) (c .before .before .put-byte2 .ensures)))
+    (λ c. next (omega arith) (next (omega arith) (c .before .before .before .before .before .before .before .before .before .before .put-byte .ensures) (c .before .before .before .before .before .before .put-bytes .ensures)) (c .before .before .put-byte2 .ensures)))

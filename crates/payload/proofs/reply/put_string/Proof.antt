@@ -1,12 +1,16 @@
 -- `payload::reply::put_string` meets its contract: head, length, text and a 0, each right behind the last.
 -- Assumes nothing.
 use native.Mathlib.Omega.{arith}
-use Rattle.payload.proofs.Replies.{head-ends, number-ends, string-put}
+use mathlib.Core.List.{append-assoc}
+use Rattle.payload.specs.Reply.{stringElement}
+use Rattle.payload.proofs.Appends.{next, renamed}
+use Rattle.payload.proofs.Replies.{head-ends, number-ends}
 use borrow.Author.Needs.{needs}
 use Rattle.payload.proofs.reply.put_string.Statement.{statement}
 use Rattle.payload.proofs.reply.put_string.Tie as tie
 
 pub put-string-spec : {M : Type 1} → statement M
+unfolding stringElement
 put-string-spec =
     tie.close
     (tie.spec
@@ -15,4 +19,4 @@ put-string-spec =
     (λ c κs. omega (arith, head-ends, number-ends))  -- put_bytes
     (λ c κs. omega (arith, head-ends, number-ends))  -- put_byte
     (λ c. search needs)
-    (λ c. string-put _ _ _ (omega arith) (c .before .before .before .before .before .before .before .before .before .before .before .before .before .before .before .before .before .before .before .pre .0) (c .before .before .before .before .before .before .before .before .before .before .before .before .before .before .put-head .ensures) (c .before .before .before .before .before .before .before .before .before .before .put-four .ensures) (c .before .before .before .before .before .before .put-bytes .ensures) (c .before .before .put-byte .ensures)))
+    (λ c. renamed (simp append-assoc) (next (omega (arith, head-ends, number-ends)) (next (omega (arith, head-ends, number-ends)) (next (omega (arith, head-ends)) (c .before .before .before .before .before .before .before .before .before .before .before .before .before .before .put-head .ensures) (c .before .before .before .before .before .before .before .before .before .before .put-four .ensures)) (c .before .before .before .before .before .before .put-bytes .ensures)) (c .before .before .put-byte .ensures))))

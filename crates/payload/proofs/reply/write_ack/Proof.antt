@@ -2,13 +2,14 @@
 -- Assumes nothing.
 use native.Mathlib.Omega.{arith}
 use Rattle.payload.specs.Reply.{ackPayload}
-use Rattle.payload.proofs.Appends.{too-small, all-put}
-use Rattle.payload.proofs.Replies.{length-ack, number-ends, grant-ends, string-ends, ack-put}
+use Rattle.payload.proofs.Appends.{next, too-small, all-put}
+use Rattle.payload.proofs.Replies.{length-ack, number-ends, grant-ends, string-ends, document-put}
 use borrow.Author.Needs.{needs}
 use Rattle.payload.proofs.reply.write_ack.Statement.{statement}
 use Rattle.payload.proofs.reply.write_ack.Tie as tie
 
 pub write-ack-spec : {M : Type 1} → statement M
+unfolding ackPayload
 write-ack-spec =
     tie.close
     (tie.spec
@@ -19,4 +20,4 @@ write-ack-spec =
     (λ c κs. omega (arith, number-ends, grant-ends))  -- put_version
     (λ c κs. omega (arith, number-ends, grant-ends, string-ends))  -- put_byte
     (λ c. search needs)
-    (λ c. let a = c .before .before .before .before .before .before .before .before .before .before .before .before .before .before .before .before .before .before .before .args in all-put (ackPayload (a .hash) (a .mtu) (a .version)) _ _ (length-ack _ _ _) (omega arith) (omega arith) (ack-put _ _ _ (c .before .before .before .before .before .before .before .before .before .before .before .before .before .before .before .before .before .size .ensures .0) (omega arith) (c .before .before .before .before .before .before .before .before .before .before .before .before .before .before .put-four .ensures) (c .before .before .before .before .before .before .before .before .before .before .put-grant .ensures) (c .before .before .before .before .before .before .put-version .ensures) (c .before .before .put-byte .ensures))))  -- Bytes(end)
+    (λ c. let a = c .before .before .before .before .before .before .before .before .before .before .before .before .before .before .before .before .before .before .before .args in let tags = next (omega (arith, number-ends, grant-ends)) (c .before .before .before .before .before .before .before .before .before .before .put-grant .ensures) (c .before .before .before .before .before .before .put-version .ensures) in all-put (ackPayload (a .hash) (a .mtu) (a .version)) _ _ (length-ack _ _ _) (omega arith) (omega arith) (document-put _ _ (omega (arith, grant-ends, string-ends)) (omega (arith, number-ends, grant-ends, string-ends)) (c .before .before .before .before .before .before .before .before .before .before .before .before .before .before .put-four .ensures) tags (c .before .before .put-byte .ensures))))  -- Bytes(end)

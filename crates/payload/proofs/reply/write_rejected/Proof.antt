@@ -19,4 +19,4 @@ write-rejected-spec =
     (λ c κs. omega (arith, number-ends))  -- put_rejected
     (λ c κs. omega (arith, number-ends, rejected-ends))  -- put_byte
     (λ c. search needs)
-    (λ c. all-put (nakPayload (c .before .before .before .before .before .before .before .before .before .before .before .before .before .before .before .args .name .now)) _ _ (length-nak _) (omega arith) (omega arith) (document-put _ _ (omega (arith, rejected-ends)) (omega (arith, rejected-ends)) (c .before .before .before .before .before .before .before .before .before .before .put-four .ensures) (c .before .before .before .before .before .before .put-rejected .ensures) (c .before .before .put-byte .ensures))))  -- Bytes(end)
+    (λ c. all-put (nakPayload (c .before .before .before .before .before .before .before .before .before .before .before .before .before .before .before .args .name .now)) _ _ (length-nak _) (omega arith) (omega arith) (document-put _ _ (omega (arith, rejected-ends)) (omega (arith, number-ends, rejected-ends)) (c .before .before .before .before .before .before .before .before .before .before .put-four .ensures) (c .before .before .before .before .before .before .put-rejected .ensures) (c .before .before .put-byte .ensures))))  -- Bytes(end)
