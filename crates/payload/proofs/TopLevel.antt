@@ -8,12 +8,12 @@ use mathlib.Core.Bool.{Bool, true, false, not, _||_}
 use native.Mathlib.Omega.{arith}
 use native.Mathlib.Nat.{pow-suc}
 use lib.ListN.{length, getD, take, drop}
-use lib.Dec.{leb, ltb, eqb}
-use borrow.Author.Tests.{leb-true, eqb-true}
+use lib.Dec.{ltb, eqb}
+use borrow.Author.Tests.{eqb-true}
 use Rattle.numbers.specs.Bytes.{AreBytes, part}
 use Rattle.numbers.specs.Numbers.{valueLe}
 use Rattle.numbers.proofs.Laws.{bytes-drop}
-use Rattle.numbers.proofs.Choices.{and-both, either, unless-elim}
+use Rattle.numbers.proofs.Choices.{either, unless-elim}
 use Rattle.payload.specs.Tags.{typed, found, clashes, noTags, withTag}
 use Rattle.payload.specs.Walk.{readType, nests, stringFits, stringOf, plainOf, tagAt, keyStop, headOf, pastPlain, pastNested, Nested, valueOf, elementOf, andThen, elements, documentFits, documentOf, answer, lengthFits, payloadOf}
 use Rattle.payload.specs.declared.Tags.{Tags}
@@ -27,6 +27,7 @@ use Rattle.payload.specs.declared.Walk.{Walk}
 use Rattle.payload.specs.declared.Walk.the-variants.{Past, Fault}
 use Rattle.payload.specs.declared.Payload.{Payload}
 use Rattle.payload.specs.declared.Payload.the-variants.{Accepted, Refused}
+use Rattle.payload.proofs.Within.{string-fits, document-fits}
 
 -- a walk that leaves the tags as they were
 abbrev pub Keeps : Tags → Walk → Type 0
@@ -173,10 +174,7 @@ module _ (s : List ℕ) (P : Tags → Type 0) (step : (end : ℕ) (t : Tags) (ki
   document-holds (suc levels) at end t h l p =
       let n = valueLe (part s at 4) in
       unless-elim (Holds P) (documentFits at end n) (Fault 32) _ (λ e. tt)
-      (λ e.
-      let a = and-both (leb 4 (end - at)) _ e in
-      let b = and-both (leb 5 n) _ (a .1) in
-      elements-hold (documentOf levels false s) (document-keeps levels s) n (at + 4) (at + n) t (omega (arith, leb-true n (end - at) (b .1))) p)
+      (λ e. elements-hold (documentOf levels false s) (document-keeps levels s) n (at + 4) (at + n) t (omega (arith, document-fits at end n e)) p)
 
   answer-holds : (w : Walk) → Holds P w → AcceptedHolds P (answer w)
   answer-holds (Past n t) h = h
@@ -199,13 +197,7 @@ pub string-says : (s : List ℕ) (v end : ℕ) → StringSays s v end (stringOf 
 unfolding stringOf
 string-says s v end =
     let n = valueLe (part s v 4) in
-    either (StringSays s v end) (stringFits s v end n) (To (v + 4 + n)) Wrong
-    (λ e.
-    let a = and-both (leb 4 (end - v)) _ e in
-    let b = and-both (leb 1 n) _ (a .1) in
-    let c = and-both (leb n (end - v - 4)) _ (b .1) in
-    (leb-true 1 n (b .0), omega (arith, leb-true 4 (end - v) (a .0), leb-true n (end - v - 4) (c .0)), eqb-true (getD s (v + 3 + n) 0) 0 (c .1)))
-    (λ e. tt)
+    either (StringSays s v end) (stringFits s v end n) (To (v + 4 + n)) Wrong (λ e. let f = string-fits s v end n e in (f .1, omega arith, f .3)) (λ e. tt)
 
 -- a version string that was found lies inside the slice, and a 0 byte follows it
 abbrev pub VersionInside : List ℕ → Tags → Type 0

@@ -4,11 +4,11 @@
 use Prim.Native.Nat.{ℕ, zero, suc, _+_, _-_, _≤_}
 use mathlib.Core.Path.{_≡_, refl, ap}
 use mathlib.Core.List.{List}
-use mathlib.Core.Bool.{Bool, false, _&&_}
+use mathlib.Core.Bool.{Bool, true, false, _&&_}
 use native.Mathlib.Omega.{arith}
 use lib.ListN.{getD}
 use lib.Dec.{leb, ltb, eqb}
-use borrow.Author.Tests.{ltb-true, leb-true, le-ltb}
+use borrow.Author.Tests.{ltb-true, leb-true, le-ltb, eqb-true}
 use Rattle.numbers.specs.Bytes.{part, pick, unless}
 use Rattle.numbers.specs.Numbers.{valueLe}
 use Rattle.numbers.proofs.Choices.{and-both, either, unless-elim}
@@ -36,6 +36,20 @@ abbrev pub WalkIn : ℕ → ℕ → Walk → Type 0
 WalkIn lo hi (Past n t) = (lo ≤ n) × (n ≤ hi)
 WalkIn lo hi (Fault k) = Unit {0}
 
+-- what the tests of a string's and of a document's length say
+pub string-fits : (s : List ℕ) (v end n : ℕ) → stringFits s v end n ≡ true → (4 ≤ end - v) × (1 ≤ n) × (n ≤ end - v - 4) × (getD s (v + 3 + n) 0 ≡ 0)
+string-fits s v end n e =
+    let a = and-both (leb 4 (end - v)) _ e in
+    let b = and-both (leb 1 n) _ (a .1) in
+    let c = and-both (leb n (end - v - 4)) _ (b .1) in
+    (leb-true 4 (end - v) (a .0), leb-true 1 n (b .0), leb-true n (end - v - 4) (c .0), eqb-true (getD s (v + 3 + n) 0) 0 (c .1))
+
+pub document-fits : (at end n : ℕ) → documentFits at end n ≡ true → (4 ≤ end - at) × (5 ≤ n) × (n ≤ end - at)
+document-fits at end n e =
+    let a = and-both (leb 4 (end - at)) _ e in
+    let b = and-both (leb 5 n) _ (a .1) in
+    (leb-true 4 (end - at) (a .0), leb-true 5 n (b .0), leb-true n (end - at) (b .1))
+
 module _ (s : List ℕ) (v end : ℕ) (h : v ≤ end) where
   fixed-in : (w : ℕ) → SkipIn v end (fixedOf w v end)
   unfolding fixedOf
@@ -52,13 +66,7 @@ module _ (s : List ℕ) (v end : ℕ) (h : v ≤ end) where
   unfolding stringOf
   string-in =
       let n = valueLe (part s v 4) in
-      either (SkipIn v end) (stringFits s v end n) (To (v + 4 + n)) Wrong
-      (λ e.
-      let a = and-both (leb 4 (end - v)) _ e in
-      let b = and-both (leb 1 n) _ (a .1) in
-      let c = and-both (leb n (end - v - 4)) _ (b .1) in
-      omega (arith, leb-true 4 (end - v) (a .0), leb-true n (end - v - 4) (c .0)))
-      (λ e. tt)
+      either (SkipIn v end) (stringFits s v end n) (To (v + 4 + n)) Wrong (λ e. omega (arith, string-fits s v end n e)) (λ e. tt)
 
   pub plain-in : (kind : ℕ) → SkipIn v end (plainOf s v end kind)
   unfolding plainOf
@@ -126,11 +134,7 @@ document-in zero top s at end t h = tt
 document-in (suc levels) top s at end t h =
     let n = valueLe (part s at 4) in
     unless-elim (WalkIn at end) (documentFits at end n) _ _ (λ e. tt)
-    (λ e.
-    let a = and-both (leb 4 (end - at)) _ e in
-    let b = and-both (leb 5 n) _ (a .1) in
-    wider at end (at + n) (elements n (documentOf levels false s) top s (at + 4) (at + n) t) (omega arith)
-    (omega (arith, leb-true n (end - at) (b .1)))
+    (λ e. wider at end (at + n) (elements n (documentOf levels false s) top s (at + 4) (at + n) t) (omega arith) (omega (arith, document-fits at end n e))
     (elements-in n (documentOf levels false s) top s (at + 4) (at + n) t))
 
 then-same : (lo hi : ℕ) (w : Walk) (f g : ℕ → Tags → Walk) → WalkIn lo hi w → ((n : ℕ) (t : Tags) → lo ≤ n → f n t ≡ g n t) → andThen w f ≡ andThen w g
