@@ -14,9 +14,6 @@ put-string-requires c κs =
     let t = ap length (text-back (versionText (c .before .before .before .before .before .before .before .before .args .version)) (c .before .before .before .before .before .put .ensures)) in
     (omega (arith, (c .before .before .before .before .before .before .before .before .pre .0)), omega (arith, (c .before .before .before .before .before .before .before .before .pre .1)))
 
-returns : tie.Need-returns
-returns c = rw (text-back (versionText (c .before .before .before .before .before .before .before .before .before .before .before .args .version)) (c .before .before .before .before .before .before .before .before .put .ensures)) at (c .before .before .put-string .ensures)
-
 pub put-version-spec : {M : Type 1} → statement M
 put-version-spec =
     tie.close
@@ -25,4 +22,4 @@ put-version-spec =
     (λ c. search needs) (λ c. search needs) (λ c. search needs) (λ c. omega (arith, (c .before .before .before .put .ensures .ends), (c .before .before .before .before .before .before .pre .1)))  -- &text[0..end]
     put-string-requires  -- put_string
     (λ c. search needs)
-    returns)
+    (λ c. rw (text-back (versionText (c .before .before .before .before .before .before .before .before .before .before .before .args .version)) (c .before .before .before .before .before .before .before .before .put .ensures)) at (c .before .before .put-string .ensures)))
