@@ -52,17 +52,12 @@ number-put w b at o q l h e =
     let z : at + w ≡ at + length b = omega arith in
     record { ends = z; puts = e ∙ put-fits o at w b h ∙ f ∙ rw z }
 
--- a part of the buffer that holds the bytes and nothing else
-pub part-put : (b : List ℕ) (at n : ℕ) (o q r : List ℕ) → n ≡ at + length b → r ≡ b → q ≡ putMid at (n - at) o r → Appended at b o n q
-part-put b at n o q r e f g =
+-- bytes laid into a part of the buffer that is as long as they are
+pub part-put : (b : List ℕ) (at n : ℕ) (o : List ℕ) {r : List ℕ} → n ≡ at + length b → r ≡ laid b (part o at (n - at)) → Appended at b o n (putMid at (n - at) o r)
+part-put b at n o e f =
     let z : n - at ≡ length b = omega arith in
-    record { ends = e; puts = g ∙ rw (z, f, drop-drop) }
-
--- a part as long as the bytes is all theirs
-pub filled : (b o : List ℕ) (at w : ℕ) → length b ≡ w → laid b (part o at w) ≡ b
-filled b o at w l =
-    let m : drop (length b) (part o at w) ≡ [] = drop-of-length-le (part o at w) {i = length b} (omega (arith, length-take w (drop at o))) in
-    rw m (append-nil b)
+    let m : drop (length b) (part o at (length b)) ≡ [] = drop-of-length-le (part o at (length b)) {i = length b} (omega (arith, length-take (length b) (drop at o))) in
+    record { ends = e; puts = rw (f, z, m, append-nil, drop-drop) }
 
 -- what a public writer answers
 module _ (b o : List ℕ) (k : ℕ) (e : length b ≡ k) where

@@ -126,8 +126,8 @@ module _ (at n : ℕ) (o p : List ℕ) where
   rejected-ends name e = omega (arith, length-rejected name)
 
 -- the bytes put to the front of an array are its first ones
-pub text-back : (b : List ℕ) {o q : List ℕ} {n : ℕ} → Appended 0 b o n q → take (n - 0) (drop 0 q) ≡ b
-text-back b {o} {n = n} e =
+pub text-back : {b o q : List ℕ} {n : ℕ} → Appended 0 b o n q → take (n - 0) (drop 0 q) ≡ b
+text-back {b} {o} {n = n} e =
     let z : n - 0 ≡ length b = omega arith in
     rw (z, e .puts) (take-at b (drop (0 + length b) o) (length b) refl)
 

@@ -8,6 +8,7 @@ use mathlib.Core.List.{List}
 use native.Mathlib.Omega.{arith}
 use lib.Dec.{eqb, leb, ltb}
 use borrow.Author.Tests.{eq-eqb, ne-eqb, le-leb, le-ltb, ltb-true, ltb-false, leb-true, eqb-false, not-true}
+use borrow.Rule.Slice.PartMut.{putMid}
 use lib.ListN.{length, take, drop, length-append, length-drop, drop-of-length-le}
 use lib.Seq.{length-take-le, take-all, take-length}
 use Rattle.numbers.proofs.Choices.{and-both, split, unless-elim}
@@ -18,11 +19,12 @@ use Rattle.lines.specs.declared.Encoded.{Encoded}
 use Rattle.lines.specs.declared.Encoded.the-variants.{Chars}
 use Rattle.lines.proofs.Digits.{width-one, width-step}
 use Rattle.numbers.specs.Bytes.{part, laid}
+use Rattle.payload.specs.Append.{Appended}
 use Rattle.payload.specs.Version.{version, beforeDot, afterDot, versionFrom, versionText, atMost}
 use Rattle.payload.specs.declared.version.Version.{Version}
 use Rattle.payload.specs.declared.version.VersionText.{VersionText}
 use Rattle.payload.specs.declared.version.VersionText.the-variants.{Good, Bad}
-use Rattle.payload.proofs.Appends.{filled}
+use Rattle.payload.proofs.Appends.{part-put}
 
 -- the place of the first dot, found in the whole text
 module _ (text : List ℕ) (r : ℕ) (e : r ≡ 0 + indexOf 46 (slice 0 (length text) text)) where
@@ -66,16 +68,15 @@ module _ (n : ℕ) where
       split (ltb n 100) (λ f. omega (arith, digits-two (ltb-false n 10 e) (ltb-true n 100 f))) λ f.
       omega (arith, digits-three (ltb-false n 100 f) h)
 
--- decimal text that fills the part that is lent for it
+-- decimal text in the part that is lent for it
 pub digits-put : (n at w : ℕ) (o : List ℕ) {a : Encoded} {r : List ℕ} → w ≡ length (decimalOf n) → at + length (decimalOf n) ≤ length o
-    → encoded a r ≡ writtenOf (decimalOf n) (part o at (at + w - at)) → r ≡ decimalOf n
+    → encoded a r ≡ writtenOf (decimalOf n) (part o at (at + w - at)) → Appended at (decimalOf n) o (at + w) (putMid at (at + w - at) o r)
 unfolding writtenOf
 digits-put n at w o {a} {r} e room f =
     let d = decimalOf n in
-    let z : at + w - at ≡ w = omega arith in
-    let l : length (part o at w) ≡ w = length-take-le w (drop at o) (omega (arith, length-drop at o)) in
-    let g : encoded a r ≡ encoded (Chars (length d)) (laid d (part o at w)) = f ∙ rw (z, l, le-ltb w (length d) (omega arith)) in
-    ap (λ w. w .buffer) g ∙ filled d o at w (sym e)
+    let l : length (part o at (at + w - at)) ≡ w = length-take-le (at + w - at) (drop at o) (omega (arith, length-drop at o)) ∙ omega arith in
+    let g : encoded a r ≡ encoded (Chars (length d)) (laid d (part o at (at + w - at))) = f ∙ rw (l, le-ltb w (length d) (omega arith)) in
+    part-put d at (at + w) o (omega arith) (ap (λ w. w .buffer) g)
 
 -- the string of a version: three parts and two dots
 module _ (v : Version) where
