@@ -28,6 +28,8 @@ use Rattle.payload.specs.declared.version.VersionText.the-variants.{Good
 use Rattle.payload.specs.declared.reply.Parameter.{Parameter}
 use Rattle.payload.specs.declared.reply.Parameter.the-variants as parameter
 use Rattle.payload.proofs.Replies.{length-head, length-document, length-int32, length-string, length-grant}
+use Rattle.payload.proofs.Outcomes.{payload-walked}
+use Rattle.payload.proofs.Rest.{document-elements}
 use Rattle.payload.proofs.Versions.{version-most}
 use Rattle.payload.proofs.VersionLaws.{written-read}
 
@@ -143,25 +145,12 @@ module _ (e : List ℕ) (small : length e + 5 ≤ 1024) where
   size-here = number-first 4 (5 + length e) (e ++ 0 ∷ []) (omega arith)
 
   pub document-read : (bound : ℕ) → 5 + length e ≡ bound → payloadOf (document e) ≡ answer (elements bound inner true (document e) 4 (5 + length e) noTags)
-  unfolding payloadOf documentOf
   document-read bound z =
-      let l : length (document e) ≡ 5 + length e = omega (arith, length-document e) in
-      let n : 5 + length e ≡ 0 → ⊥ = λ k. omega arith in
-      let d : 5 + length e - 0 ≡ 5 + length e = omega arith in
+      let s = document e in
+      let l : length s ≡ 5 + length e = omega (arith, length-document e) in
       let k : 0 + (5 + length e) ≡ 5 + length e = omega arith in
-      rw (
-        l,
-        size-here,
-        ne-eqb (5 + length e) 0 n,
-        le-leb 5 (5 + length e) (omega arith),
-        le-leb (5 + length e) 1024 (omega arith),
-        eq-eqb (5 + length e) (5 + length e) refl,
-        d,
-        le-leb 4 (5 + length e) (omega arith),
-        le-leb (5 + length e) (5 + length e) (omega arith),
-        k,
-      )
-      (ap (λ (b : ℕ). answer (elements b inner true (document e) 4 (5 + length e) noTags)) z)
+      let w = document-elements true s 0 (length s) noTags (5 + length e) (sym size-here) 8 (λ k. omega arith) (omega arith) (omega arith) (omega arith) in
+      sym (payload-walked s (5 + length e) (sym size-here) (λ k. omega arith) (omega arith) (omega arith) (omega arith) _ 8 noTags w refl refl) ∙ rw (k, z)
 
   last-byte : (at : ℕ) → at ≡ 4 + length e → getD (document e) at 0 ≡ 0
   unfolding document

@@ -85,12 +85,12 @@ module _ (top : Bool) (s : List ℕ) (at end : ℕ) (t : Tags) where
         rw (← e) (unless-elim (λ (w : Walk). Fault 32 ≡ w) (documentFits at end n) (Fault 32) _ (λ f. refl) (λ f. let g = document-fits at end n f in absurd (out (g .0) (g .1) (g .2))))
 
     pub document-elements : (levels : ℕ) → (levels ≡ 0 → ⊥) → 4 ≤ end - at → 5 ≤ n → n ≤ end - at
-        → Rest (documentOf (levels - 1) false s) top s (at + n) (documentOf levels top s at end t) (at + 4) t
+        → elements n (documentOf (levels - 1) false s) top s (at + 4) (at + n) t ≡ documentOf levels top s at end t
     unfolding documentOf
     document-elements zero p a b c = absurd (p refl)
     document-elements (suc levels) p a b c =
         let q : suc levels - 1 ≡ levels = omega arith in
-        record { bound = n; enough = omega arith; says = rw (q, ← e, le-leb 4 (end - at) a, le-leb 5 n b, le-leb n (end - at) c) }
+        rw (q, ← e, le-leb 4 (end - at) a, le-leb 5 n b, le-leb n (end - at) c)
 
 -- an element, by what stands before its value
 pub value-inside : (top : Bool) (s : List ℕ) (at end : ℕ) (t : Tags) {kind : ℕ} {tag : Tag} {v : ℕ} → headOf top s at end t ≡ Value kind tag v → (at + 1 ≤ v) × (v ≤ end)

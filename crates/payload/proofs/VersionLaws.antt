@@ -80,13 +80,6 @@ written-read v l a b c =
       le-leb (v .patch) 255 (omega arith),
     )
 
--- a number's last digit and the rest
-ten : (m x y : ℕ) → y < 10 → x * 10 + y ≡ m → (m / 10 ≡ x) × (m % 10 ≡ y)
-ten m x y h e = (omega arith, omega arith)
-
-up : (d a : ℕ) → d ≡ a - 48 → 48 ≤ a → 48 + d ≡ a
-up d a e h = omega arith
-
 -- one to three digits with no spare zero are the text of their value
 digits-text : (t : List ℕ) (n : ℕ) → 0 < length t → every isDecimal t ≡ true → spareZero t ≡ false → valueFrom 0 t ≡ n → n < 256 → decimalOf n ≡ t
 unfolding valueFrom
@@ -101,9 +94,8 @@ digits-text (a ∷ b ∷ []) n l d s e h =
     let a' = says 48 57 a (x .0) in
     let b' = says 48 57 b (y .0) in
     let a″ = eqb-false a 48 s in
-    let i = ten n (a - 48) (b - 48) (omega (arith, b')) (omega (arith, e)) in
-    let p : 48 + n / 10 ≡ a = up (n / 10) a (i .0) (a' .0) in
-    let q : 48 + n % 10 ≡ b = up (n % 10) b (i .1) (b' .0) in
+    let p : 48 + n / 10 ≡ a = omega arith in
+    let q : 48 + n % 10 ≡ b = omega arith in
     decimal-step n (omega arith) ∙ rw (decimal-one (n / 10) (omega arith), p, q)
 digits-text (a ∷ b ∷ c ∷ []) n l d s e h =
     let x = both (isDecimal a) (isDecimal b && (isDecimal c && true)) d in
@@ -113,11 +105,9 @@ digits-text (a ∷ b ∷ c ∷ []) n l d s e h =
     let b' = says 48 57 b (y .0) in
     let c' = says 48 57 c (z .0) in
     let a″ = eqb-false a 48 s in
-    let i = ten n ((a - 48) * 10 + (b - 48)) (c - 48) (omega (arith, c')) (omega (arith, e)) in
-    let j = ten (n / 10) (a - 48) (b - 48) (omega (arith, b')) (sym (i .0)) in
-    let o : 48 + n / 10 / 10 ≡ a = up (n / 10 / 10) a (j .0) (a' .0) in
-    let p : 48 + n / 10 % 10 ≡ b = up (n / 10 % 10) b (j .1) (b' .0) in
-    let q : 48 + n % 10 ≡ c = up (n % 10) c (i .1) (c' .0) in
+    let o : 48 + n / 10 / 10 ≡ a = omega arith in
+    let p : 48 + n / 10 % 10 ≡ b = omega arith in
+    let q : 48 + n % 10 ≡ c = omega arith in
     decimal-step n (omega arith) ∙ rw (decimal-step (n / 10) (omega arith), decimal-one (n / 10 / 10) (omega arith), o, p, q)
 digits-text (a ∷ b ∷ c ∷ d' ∷ t) n l d s e h =
     let x = both (isDecimal a) (isDecimal b && (isDecimal c && (isDecimal d' && every isDecimal t))) d in
