@@ -3,7 +3,7 @@
 -- By the laws of take and drop and the equations of decimal text. Assumes nothing.
 use Prim.Native.Nat.{ℕ, _+_, _-_, _/_, _≤_, _<_}
 use mathlib.Core.Path.{_≡_, refl, ap, _∙_, sym}
-use mathlib.Core.Bool.{not, _&&_, or-false}
+use mathlib.Core.Bool.{true, not, _&&_, or-false}
 use mathlib.Core.List.{List}
 use native.Mathlib.Omega.{arith}
 use lib.Dec.{eqb, leb, ltb}
@@ -88,21 +88,35 @@ module _ (v : Version) where
   version-most a b c = omega (arith, length-version, digits-most (v .major) a, digits-most (v .minor) b, digits-most (v .patch) c)
 
 -- three parts: good where all are in range, bad where that is refuted
-module _ (a b c : ℕ) where
-  pub parts-good : 1 ≤ a → a ≤ 255 → b ≤ 255 → c ≤ 255 → Good (version a b c) ≡ versionFrom a b c
-  unfolding versionFrom
-  parts-good p q r s =
-      let n : a ≡ 0 → ⊥ = λ z. omega arith in
-      rw (ne-eqb a 0 n, le-leb a 255 q, le-leb b 255 r, le-leb c 255 s)
+pub record InRange (a b c : ℕ) : Type 0 where
+  pub one : 1 ≤ a
+  pub major : a < 256
+  pub minor : b < 256
+  pub patch : c < 256
 
-  pub parts-bad : (1 ≤ a → a ≤ 255 → b ≤ 255 → c ≤ 255 → ⊥) → Bad ≡ versionFrom a b c
+module _ (a b c : ℕ) where
+  pub in-range : not (eqb a 0) && (leb a 255 && (leb b 255 && leb c 255)) ≡ true → InRange a b c
+  in-range e =
+      let p = and-both (not (eqb a 0)) _ e in
+      let q = and-both (leb a 255) _ (p .1) in
+      let r = and-both (leb b 255) _ (q .1) in
+      record {
+        one = let n = eqb-false a 0 (not-true (eqb a 0) (p .0)) in omega arith;
+        major = omega (arith, leb-true a 255 (q .0));
+        minor = omega (arith, leb-true b 255 (r .0));
+        patch = omega (arith, leb-true c 255 (r .1));
+      }
+
+  pub parts-good : InRange a b c → Good (version a b c) ≡ versionFrom a b c
+  unfolding versionFrom
+  parts-good r =
+      let n : a ≡ 0 → ⊥ = λ z. omega arith in
+      rw (ne-eqb a 0 n, le-leb a 255 (omega arith), le-leb b 255 (omega arith), le-leb c 255 (omega arith))
+
+  pub parts-bad : (InRange a b c → ⊥) → Bad ≡ versionFrom a b c
   unfolding versionFrom
   parts-bad out =
-      unless-elim (λ (t : VersionText). Bad ≡ t) (not (eqb a 0) && (leb a 255 && (leb b 255 && leb c 255))) Bad (Good (version a b c)) (λ e. refl) λ e.
-      let p = and-both (not (eqb a 0)) (leb a 255 && (leb b 255 && leb c 255)) e in
-      let q = and-both (leb a 255) (leb b 255 && leb c 255) (p .1) in
-      let r = and-both (leb b 255) (leb c 255) (q .1) in
-      absurd (out (omega (arith, eqb-false a 0 (not-true (eqb a 0) (p .0)))) (leb-true a 255 (q .0)) (leb-true b 255 (r .0)) (leb-true c 255 (r .1)))
+      unless-elim (λ (t : VersionText). Bad ≡ t) (not (eqb a 0) && (leb a 255 && (leb b 255 && leb c 255))) Bad (Good (version a b c)) (λ e. refl) (λ e. absurd (out (in-range e)))
 
 -- two versions, by the first numbers that differ
 module _ (a b : Version) where

@@ -10,6 +10,6 @@ pub from-parts-spec : {M : Type 1} → statement M
 from-parts-spec =
     tie.close
     (tie.spec
-    (λ c. parts-bad _ _ _ (λ p q r s. omega arith)) (λ c. parts-bad _ _ _ (λ p q r s. omega arith)) (λ c. parts-bad _ _ _ (λ p q r s. omega arith)) (λ c. parts-bad _ _ _ (λ p q r s. omega arith))  -- Bad
+    (λ c. parts-bad _ _ _ (λ r. omega arith)) (λ c. parts-bad _ _ _ (λ r. omega arith)) (λ c. parts-bad _ _ _ (λ r. omega arith)) (λ c. parts-bad _ _ _ (λ r. omega arith))  -- Bad
     (λ c. search needs) (λ c. search needs) (λ c. search needs)  -- major, minor, patch
-    (λ c. parts-good _ _ _ (omega arith) (omega arith) (omega arith) (omega arith)))  -- Good
+    (λ c. parts-good _ _ _ (record { one = omega arith; major = omega arith; minor = omega arith; patch = omega arith })))  -- Good
