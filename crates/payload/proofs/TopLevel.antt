@@ -117,12 +117,8 @@ module _ (s : List ℕ) (P : Tags → Type 0) (step : (end : ℕ) (t : Tags) (ki
   nested-holds : (end : ℕ) (t : Tags) (kind : ℕ) (tag : Tag) (v : ℕ) → found t tag ≡ false → typed tag kind ≡ true → end ≤ length s → nests kind ≡ true → P t
       → (w : Walk) → Keeps t w → Holds P (pastNested s w tag v)
   nested-holds end t kind tag v f g l y p (Past n u) e =
-      subst (λ (x : Tags). P (withTag s x tag v)) (sym e)
-      (step end t kind tag v (record { fresh = f; right = g; inside = l; value = λ z. (0, absurd (both (nests kind) y z)) }) p)
-    where
-      both : (b : Bool) → b ≡ true → b ≡ false → ⊥
-      both true y z = let o : _≡_ {A = ℕ} 0 1 = cc in omega arith
-      both false y z = let o : _≡_ {A = ℕ} 0 1 = cc in omega arith
+      let never : nests kind ≡ false → _≡_ {A = ℕ} 0 1 = λ z. cc in
+      rw e (step end t kind tag v (record { fresh = f; right = g; inside = l; value = λ z. let o = never z in absurd (omega arith) }) p)
   nested-holds end t kind tag v f g l y p (Fault k) e = tt
 
   module _ (nested : Nested) (keeps : NestedKeeps nested) where
@@ -192,10 +188,7 @@ version-step s end t kind ProtocolVersion v x p = λ y.
     (omega (arith, x .inside), rw z (f .2))
 
 pub version-inside : (s : List ℕ) → AcceptedHolds (VersionInside s) (payloadOf s)
-version-inside s = tags-hold s (VersionInside s) (version-step s) (λ y. absurd (never y))
-  where
-    never : false ≡ true → ⊥
-    never y = let o : _≡_ {A = ℕ} 0 1 = cc in omega arith
+version-inside s = tags-hold s (VersionInside s) (version-step s) (λ y. let o : _≡_ {A = ℕ} 0 1 = cc in absurd (omega arith))
 
 -- numbers of four and of eight bytes
 pub value-most : (w : ℕ) (bs : List ℕ) → AreBytes bs → valueLe (take w bs) < 256 ^ w

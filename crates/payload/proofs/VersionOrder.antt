@@ -2,10 +2,10 @@
 -- major and for minor. Assumes nothing.
 use Prim.Native.Nat.{ℕ, _<_}
 use mathlib.Core.Path.{_≡_, refl, _∙_, sym}
-use mathlib.Core.Bool.{Bool, true, false}
+use mathlib.Core.Bool.{Bool, true, false, or-false}
 use mathlib.Core.Logic.{_⊎_, inl, inr}
 use native.Mathlib.Omega.{arith}
-use lib.Dec.{ltb, eqb}
+use lib.Dec.{leb, ltb, eqb}
 use borrow.Author.Tests.{lt-ltb, le-ltb, ltb-true, ltb-false, eq-eqb, ne-eqb, eqb-true, eqb-false, le-leb, leb-true, leb-false}
 use Rattle.numbers.proofs.Choices.{split}
 use Rattle.payload.specs.Version.{version, belowOr, atMost, lesserOf}
@@ -30,6 +30,23 @@ module _ (x y : ℕ) where
   above r h =
       let n : x ≡ y → ⊥ = λ e. omega arith in
       rw (le-ltb x y (omega arith), ne-eqb x y n)
+
+  differs : (r : Bool) → (x ≡ y → ⊥) → ltb x y ≡ belowOr x y r
+  differs r h = rw (ne-eqb x y h) (sym (or-false _))
+
+-- so code compares two versions by the first numbers that differ
+module _ (a b : Version) where
+  pub by-major : (a .major ≡ b .major → ⊥) → ltb (a .major) (b .major) ≡ atMost a b
+  unfolding atMost
+  by-major p = differs (a .major) (b .major) _ p
+
+  pub by-minor : a .major ≡ b .major → (a .minor ≡ b .minor → ⊥) → ltb (a .minor) (b .minor) ≡ atMost a b
+  unfolding atMost
+  by-minor p q = differs (a .minor) (b .minor) _ q ∙ sym (same (a .major) (b .major) _ p)
+
+  pub by-patch : a .major ≡ b .major → a .minor ≡ b .minor → leb (a .patch) (b .patch) ≡ atMost a b
+  unfolding atMost
+  by-patch p q = sym (same (a .major) (b .major) _ p ∙ same (a .minor) (b .minor) _ q)
 
 never : {P : Type 0} → true ≡ false → P
 never e = absurd (let z : _≡_ {A = ℕ} 0 1 = cc in omega arith)

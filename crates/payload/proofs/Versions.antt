@@ -3,11 +3,11 @@
 -- By the laws of take and drop and the equations of decimal text. Assumes nothing.
 use Prim.Native.Nat.{ℕ, _+_, _-_, _/_, _≤_, _<_}
 use mathlib.Core.Path.{_≡_, refl, ap, _∙_, sym}
-use mathlib.Core.Bool.{true, not, _&&_, or-false}
+use mathlib.Core.Bool.{true, not, _&&_}
 use mathlib.Core.List.{List}
 use native.Mathlib.Omega.{arith}
 use lib.Dec.{eqb, leb, ltb}
-use borrow.Author.Tests.{eq-eqb, ne-eqb, le-leb, le-ltb, ltb-true, ltb-false, leb-true, eqb-false, not-true}
+use borrow.Author.Tests.{ne-eqb, le-leb, le-ltb, ltb-true, ltb-false, leb-true, eqb-false, not-true}
 use borrow.Rule.Slice.PartMut.{putMid}
 use lib.ListN.{length, take, drop, length-append, length-drop, drop-of-length-le}
 use lib.Seq.{length-take-le, take-all, take-length}
@@ -20,7 +20,7 @@ use Rattle.lines.specs.declared.Encoded.the-variants.{Chars}
 use Rattle.lines.proofs.Digits.{width-one, width-step}
 use Rattle.numbers.specs.Bytes.{part, laid}
 use Rattle.payload.specs.Append.{Appended}
-use Rattle.payload.specs.Version.{version, beforeDot, afterDot, versionFrom, versionText, atMost}
+use Rattle.payload.specs.Version.{version, beforeDot, afterDot, versionFrom, versionText}
 use Rattle.payload.specs.declared.version.Version.{Version}
 use Rattle.payload.specs.declared.version.VersionText.{VersionText}
 use Rattle.payload.specs.declared.version.VersionText.the-variants.{Good, Bad}
@@ -117,22 +117,3 @@ module _ (a b c : ℕ) where
   unfolding versionFrom
   parts-bad out =
       unless-elim (λ (t : VersionText). Bad ≡ t) (not (eqb a 0) && (leb a 255 && (leb b 255 && leb c 255))) Bad (Good (version a b c)) (λ e. refl) (λ e. absurd (out (in-range e)))
-
--- two versions, by the first numbers that differ
-module _ (a b : Version) where
-  pub by-major : (a .major ≡ b .major → ⊥) → ltb (a .major) (b .major) ≡ atMost a b
-  unfolding atMost
-  by-major p = rw (ne-eqb (a .major) (b .major) p) (sym (or-false _))
-
-  pub by-minor : a .major ≡ b .major → (a .minor ≡ b .minor → ⊥) → ltb (a .minor) (b .minor) ≡ atMost a b
-  unfolding atMost
-  by-minor p q =
-      let l : b .major ≤ a .major = omega arith in
-      rw (le-ltb (a .major) (b .major) l, eq-eqb (a .major) (b .major) p, ne-eqb (a .minor) (b .minor) q) (sym (or-false _))
-
-  pub by-patch : a .major ≡ b .major → a .minor ≡ b .minor → leb (a .patch) (b .patch) ≡ atMost a b
-  unfolding atMost
-  by-patch p q =
-      let l : b .major ≤ a .major = omega arith in
-      let m : b .minor ≤ a .minor = omega arith in
-      rw (le-ltb (a .major) (b .major) l, eq-eqb (a .major) (b .major) p, le-ltb (a .minor) (b .minor) m, eq-eqb (a .minor) (b .minor) q)

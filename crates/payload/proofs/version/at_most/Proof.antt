@@ -1,7 +1,7 @@
 -- `payload::version::at_most` meets its contract: each answer by the numbers that were compared before it.
 -- Assumes nothing.
 use native.Mathlib.Omega.{arith}
-use Rattle.payload.proofs.Versions.{by-major, by-minor, by-patch}
+use Rattle.payload.proofs.VersionOrder.{by-major, by-minor, by-patch}
 use Rattle.payload.proofs.version.at_most.Statement.{statement}
 use Rattle.payload.proofs.version.at_most.Tie as tie
 
