@@ -31,8 +31,8 @@ module _ (a b : List ℕ) {at n m : ℕ} {o p q : List ℕ} (room : at + length 
       }
 
 -- the same, by where the first piece ends
-pub next : {a b : List ℕ} {at n m : ℕ} {o p q : List ℕ} → n ≤ length o → Appended at a o n p → Appended n b p m q → Appended at (a ++ b) o m q
-next {a} {b} h e f = more a b (omega arith) e f
+pub then-put : {a b : List ℕ} {at n m : ℕ} {o p q : List ℕ} → n ≤ length o → Appended at a o n p → Appended n b p m q → Appended at (a ++ b) o m q
+then-put {a} {b} h e f = more a b (omega arith) e f
 
 -- the same bytes under another name
 pub renamed : {a b : List ℕ} {at m : ℕ} {o q : List ℕ} → a ≡ b → Appended at a o m q → Appended at b o m q

@@ -1,5 +1,5 @@
--- Each element and payload that is written: how many bytes it has, and that it stands in the buffer after its pieces were put there one after
--- another. By `more`, once for each piece. First document 01's marked payloads, by computation. Assumes nothing.
+-- Each element and payload that is written: how many bytes it has, and where it ends in the buffer; and a document, which stands there after its
+-- pieces were put one behind the other. First document 01's marked payloads, by computation. Assumes nothing.
 use Prim.Native.Nat.{ℕ, _+_, _-_, _≤_, _<_}
 use mathlib.Core.Path.{_≡_, refl, _∙_}
 use mathlib.Core.List.{List, [], _∷_, _++_, append-assoc}
@@ -14,7 +14,7 @@ use Rattle.lines.specs.Decimal.{digitsBy, decimalOf}
 use Rattle.payload.specs.Version.{version, versionText}
 use Rattle.payload.specs.Reply.{firstKey, elementHead, document, int32Element, int64Element, stringElement, arrayElement, grantElements, rejectedElement, ackPayload, serviceAckPayload, nakPayload}
 use Rattle.payload.specs.declared.version.Version.{Version}
-use Rattle.payload.proofs.Appends.{next, renamed}
+use Rattle.payload.proofs.Appends.{then-put, renamed}
 use Rattle.payload.proofs.Versions.{version-most}
 
 -- "Payload for "5.4.1": `20 00 00 00 02`, "protocolVersion" and 0, `06 00 00 00`, "5.4.1", two zeros: 32 bytes."; the ACK's payload with it, for
@@ -52,7 +52,7 @@ module _ (elements : List ℕ) where
   pub document-put : {at n₁ n₂ m : ℕ} {o p₁ p₂ q : List ℕ} (size : ℕ) → size ≡ 5 + length elements → n₂ ≤ length o
       → Appended at (bytesLe 4 size) o n₁ p₁ → Appended n₁ elements p₁ n₂ p₂ → Appended n₂ (0 ∷ []) p₂ m q → Appended at (document elements) o m q
   unfolding document
-  document-put size z room e₁ e₂ e₃ = renamed (append-assoc (bytesLe 4 (5 + length elements)) elements (0 ∷ [])) (next room (next (omega arith) (rw z at e₁) e₂) e₃)
+  document-put size z room e₁ e₂ e₃ = renamed (append-assoc (bytesLe 4 (5 + length elements)) elements (0 ∷ [])) (then-put room (then-put (omega arith) (rw z at e₁) e₂) e₃)
 
 module _ (key : List ℕ) (x : ℕ) where
   pub length-int32 : length (int32Element key x) ≡ length key + 6

@@ -28,7 +28,7 @@ use Rattle.payload.proofs.TopLevel.{Keeps, NestedKeeps}
 -- the elements from at on say what the whole says, by a bound that is enough
 pub record Rest (nested : Nested) (top : Bool) (s : List ℕ) (end : ℕ) (whole : Walk) (at : ℕ) (t : Tags) : Type 0 where
   pub bound : ℕ
-  pub enough : end - at ≤ bound
+  pub suffices : end - at ≤ bound
   pub says : elements bound nested top s at end t ≡ whole
 
 module _ {nested : Nested} {top : Bool} {s : List ℕ} {end : ℕ} {whole : Walk} {at : ℕ} {t : Tags} (r : Rest nested top s end whole at t) where
@@ -43,7 +43,7 @@ module _ {nested : Nested} {top : Bool} {s : List ℕ} {end : ℕ} {whole : Walk
   module _ (h : at < end) where
     -- one turn of the definition
     turn : (b : ℕ) × (end - at ≤ suc b) × (elements (suc b) nested top s at end t ≡ whole)
-    turn = go (r .bound) (r .enough) (r .says)
+    turn = go (r .bound) (r .suffices) (r .says)
       where
         go : (b : ℕ) → end - at ≤ b → elements b nested top s at end t ≡ whole → (b : ℕ) × (end - at ≤ suc b) × (elements (suc b) nested top s at end t ≡ whole)
         go zero l e = absurd (omega arith)
@@ -68,7 +68,7 @@ module _ {nested : Nested} {top : Bool} {s : List ℕ} {end : ℕ} {whole : Walk
       rest-next i {q} f {u} g =
           let w : elementOf nested top s at end t ≡ Past q u = sym e ∙ rw (f, g) in
           let n : WalkIn (at + 1) end (Past q u) = subst (WalkIn (at + 1) end) w (element-in nested i top s at end t) in
-          (omega arith, n .1, record { bound = turn .0; enough = omega (arith, turn .1); says = rw (lt-ltb at end h, ne-eqb (getD s at 0) 0 z, w) at (turn .2) })
+          (omega arith, n .1, record { bound = turn .0; suffices = omega (arith, turn .1); says = rw (lt-ltb at end h, ne-eqb (getD s at 0) 0 z, w) at (turn .2) })
 
 -- a document, by the tests that were made
 module _ (top : Bool) (s : List ℕ) (at end : ℕ) (t : Tags) where

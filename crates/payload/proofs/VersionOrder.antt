@@ -1,5 +1,5 @@
--- The order of versions is total, and the lesser of two is one of them and at most both. By one law for each number compared, used for
--- major and for minor. Assumes nothing.
+-- The order of versions is total, code that compares the first numbers that differ decides it, and the lesser of two is one of them and at most
+-- both. By one law for each number compared, used for major and for minor. Assumes nothing.
 use Prim.Native.Nat.{ℕ, _<_}
 use mathlib.Core.Path.{_≡_, refl, _∙_, sym}
 use mathlib.Core.Bool.{Bool, true, false, or-false}

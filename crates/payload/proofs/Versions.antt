@@ -1,5 +1,5 @@
--- What the code of the version strings asks: the text around a dot, how many digits a part has, the string put piece by piece, which parts make
--- a version, and which of two versions comes first.
+-- What the code of the version strings asks: the text around a dot, how many digits a part has and where they stand, how long the string is, and
+-- which parts make a version.
 -- By the laws of take and drop and the equations of decimal text. Assumes nothing.
 use Prim.Native.Nat.{ℕ, _+_, _-_, _/_, _≤_, _<_}
 use mathlib.Core.Path.{_≡_, refl, ap, _∙_, sym}

@@ -1,5 +1,5 @@
 -- What is accepted lies inside its document, and the bound on the number of elements never decides an answer.
--- By the tests of the definitions; the second by induction on both bounds, since each element takes at least one byte.
+-- By the tests of the definitions, whose cases stand first; the second by induction on both bounds, since each element takes at least one byte.
 -- Assumes nothing.
 use Prim.Native.Nat.{ℕ, zero, suc, _+_, _-_, _≤_, _<_}
 use mathlib.Core.Path.{_≡_, refl, ap}

@@ -73,7 +73,7 @@ pub +document+element-spec : {M : Type 1} → statement M
     (λ c. document-wrong _ _ _ _ _ _ (c .before .le4 .ensures) _ (eqb-false (c .before .before .before .before .before .args .levels) 0 (c .before .before .before .if1 .left)) (λ p q r. omega arith))  -- size < 5
     (λ c. search needs) (λ c. document-wrong _ _ _ _ _ _ (c .before .before .le4 .ensures) _ (eqb-false (c .before .before .before .before .before .before .args .levels) 0 (c .before .before .before .before .if1 .left)) (λ p q r. omega arith))  -- end - at < size
     (λ c. search needs) (λ c. search needs)  -- last, place
-    (λ c. (omega arith, record { bound = _; enough = omega arith; says = document-elements _ _ _ _ _ _ (c .before .before .le4 .ensures) _ (eqb-false (c .before .before .before .before .before .before .args .levels) 0 (c .before .before .before .before .if1 .left)) (omega arith) (omega arith) (omega arith) }))
+    (λ c. (omega arith, record { bound = _; suffices = omega arith; says = document-elements _ _ _ _ _ _ (c .before .before .le4 .ensures) _ (eqb-false (c .before .before .before .before .before .before .args .levels) 0 (c .before .before .before .before .if1 .left)) (omega arith) (omega arith) (omega arith) }))
     (λ c. search needs) (λ c. search needs)  -- bytes[place] == 0, place + 1
     (λ c. rest-closes (c .before .before .before .before .loop .inv .1) (c .before .before .before .loop-test .taken) (c .before .if5 .taken) (omega arith))  -- Past
     (λ c. rest-early (c .before .before .before .before .loop .inv .1) (c .before .before .before .loop-test .taken) (c .before .if5 .taken) (λ z. omega arith))  -- a 0 too early

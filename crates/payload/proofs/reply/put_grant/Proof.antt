@@ -2,7 +2,7 @@
 -- Assumes nothing.
 use native.Mathlib.Omega.{arith}
 use Rattle.payload.specs.Reply.{grantElements}
-use Rattle.payload.proofs.Appends.{next}
+use Rattle.payload.proofs.Appends.{then-put}
 use Rattle.payload.proofs.Replies.{int32-ends}
 use borrow.Author.Needs.{needs}
 use Rattle.payload.proofs.reply.put_grant.Statement.{statement}
@@ -16,4 +16,4 @@ put-grant-spec =
     (λ c. search needs) (λ c κs. search needs)  -- put_int32
     (λ c. search needs) (λ c κs. omega (arith, int32-ends))  -- put_int64
     (λ c. search needs)
-    (λ c. next (omega (arith, int32-ends)) (c .before .before .before .before .before .before .before .put-int32 .ensures) (c .before .before .put-int64 .ensures)))
+    (λ c. then-put (omega (arith, int32-ends)) (c .before .before .before .before .before .before .before .put-int32 .ensures) (c .before .before .put-int64 .ensures)))

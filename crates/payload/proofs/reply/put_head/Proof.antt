@@ -2,7 +2,7 @@
 -- Assumes nothing.
 use native.Mathlib.Omega.{arith}
 use Rattle.payload.specs.Reply.{elementHead}
-use Rattle.payload.proofs.Appends.{next}
+use Rattle.payload.proofs.Appends.{then-put}
 use borrow.Author.Needs.{needs}
 use Rattle.payload.proofs.reply.put_head.Statement.{statement}
 use Rattle.payload.proofs.reply.put_head.Tie as tie
@@ -14,4 +14,4 @@ put-head-spec =
     (tie.spec
     (λ c κs. search needs) (λ c κs. search needs) (λ c κs. search needs)  -- type, key, 0
     (λ c. search needs)
-    (λ c. next (omega arith) (next (omega arith) (c .before .before .before .before .before .before .before .before .before .before .put-byte .ensures) (c .before .before .before .before .before .before .put-bytes .ensures)) (c .before .before .put-byte2 .ensures)))
+    (λ c. then-put (omega arith) (then-put (omega arith) (c .before .before .before .before .before .before .before .before .before .before .put-byte .ensures) (c .before .before .before .before .before .before .put-bytes .ensures)) (c .before .before .put-byte2 .ensures)))

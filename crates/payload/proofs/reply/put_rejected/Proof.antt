@@ -2,7 +2,7 @@
 -- Assumes nothing.
 use native.Mathlib.Omega.{arith}
 use Rattle.payload.specs.Reply.{rejectedElement, arrayElement}
-use Rattle.payload.proofs.Appends.{next}
+use Rattle.payload.proofs.Appends.{then-put}
 use Rattle.payload.proofs.Replies.{head-ends, number-ends, string-ends, document-put}
 use borrow.Author.Needs.{needs}
 use Rattle.payload.proofs.reply.put_rejected.Statement.{statement}
@@ -18,4 +18,4 @@ put-rejected-spec =
     (λ c. search needs) (λ c κs. omega (arith, head-ends, number-ends))  -- put_string
     (λ c κs. omega (arith, head-ends, number-ends, string-ends))  -- put_byte
     (λ c. search needs)
-    (λ c. next (omega (arith, head-ends)) (c .before .before .before .before .before .before .before .before .before .before .before .before .before .before .before .put-head .ensures) (document-put _ _ (omega (arith, string-ends)) (omega (arith, head-ends, number-ends, string-ends)) (c .before .before .before .before .before .before .before .before .before .before .before .put-four .ensures) (c .before .before .before .before .before .before .put-string .ensures) (c .before .before .put-byte .ensures))))
+    (λ c. then-put (omega (arith, head-ends)) (c .before .before .before .before .before .before .before .before .before .before .before .before .before .before .before .put-head .ensures) (document-put _ _ (omega (arith, string-ends)) (omega (arith, head-ends, number-ends, string-ends)) (c .before .before .before .before .before .before .before .before .before .before .before .put-four .ensures) (c .before .before .before .before .before .before .put-string .ensures) (c .before .before .put-byte .ensures))))

@@ -3,7 +3,7 @@
 use native.Mathlib.Omega.{arith}
 use mathlib.Core.List.{append-assoc}
 use Rattle.payload.specs.Reply.{stringElement}
-use Rattle.payload.proofs.Appends.{next, renamed}
+use Rattle.payload.proofs.Appends.{then-put, renamed}
 use Rattle.payload.proofs.Replies.{head-ends, number-ends}
 use borrow.Author.Needs.{needs}
 use Rattle.payload.proofs.reply.put_string.Statement.{statement}
@@ -19,4 +19,4 @@ put-string-spec =
     (λ c κs. omega (arith, head-ends, number-ends))  -- put_bytes
     (λ c κs. omega (arith, head-ends, number-ends))  -- put_byte
     (λ c. search needs)
-    (λ c. renamed (simp append-assoc) (next (omega (arith, head-ends, number-ends)) (next (omega (arith, head-ends, number-ends)) (next (omega (arith, head-ends)) (c .before .before .before .before .before .before .before .before .before .before .before .before .before .before .put-head .ensures) (c .before .before .before .before .before .before .before .before .before .before .put-four .ensures)) (c .before .before .before .before .before .before .put-bytes .ensures)) (c .before .before .put-byte .ensures))))
+    (λ c. renamed (simp append-assoc) (then-put (omega (arith, head-ends, number-ends)) (then-put (omega (arith, head-ends, number-ends)) (then-put (omega (arith, head-ends)) (c .before .before .before .before .before .before .before .before .before .before .before .before .before .before .put-head .ensures) (c .before .before .before .before .before .before .before .before .before .before .put-four .ensures)) (c .before .before .before .before .before .before .put-bytes .ensures)) (c .before .before .put-byte .ensures))))

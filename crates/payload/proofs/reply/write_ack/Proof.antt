@@ -2,7 +2,7 @@
 -- Assumes nothing.
 use native.Mathlib.Omega.{arith}
 use Rattle.payload.specs.Reply.{ackPayload}
-use Rattle.payload.proofs.Appends.{next, too-small, all-put}
+use Rattle.payload.proofs.Appends.{then-put, too-small, all-put}
 use Rattle.payload.proofs.Replies.{length-ack, number-ends, grant-ends, string-ends, document-put}
 use borrow.Author.Needs.{needs}
 use Rattle.payload.proofs.reply.write_ack.Statement.{statement}
@@ -20,4 +20,4 @@ write-ack-spec =
     (λ c κs. omega (arith, number-ends, grant-ends))  -- put_version
     (λ c κs. omega (arith, number-ends, grant-ends, string-ends))  -- put_byte
     (λ c. search needs)
-    (λ c. let a = c .before .before .before .before .before .before .before .before .before .before .before .before .before .before .before .before .before .before .before .args in let tags = next (omega (arith, number-ends, grant-ends)) (c .before .before .before .before .before .before .before .before .before .before .put-grant .ensures) (c .before .before .before .before .before .before .put-version .ensures) in all-put (ackPayload (a .hash) (a .mtu) (a .version)) _ _ (length-ack _ _ _) (omega arith) (omega arith) (document-put _ _ (omega (arith, grant-ends, string-ends)) (omega (arith, number-ends, grant-ends, string-ends)) (c .before .before .before .before .before .before .before .before .before .before .before .before .before .before .put-four .ensures) tags (c .before .before .put-byte .ensures))))  -- Bytes(end)
+    (λ c. let a = c .before .before .before .before .before .before .before .before .before .before .before .before .before .before .before .before .before .before .before .args in let tags = then-put (omega (arith, number-ends, grant-ends)) (c .before .before .before .before .before .before .before .before .before .before .put-grant .ensures) (c .before .before .before .before .before .before .put-version .ensures) in all-put (ackPayload (a .hash) (a .mtu) (a .version)) _ _ (length-ack _ _ _) (omega arith) (omega arith) (document-put _ _ (omega (arith, grant-ends, string-ends)) (omega (arith, number-ends, grant-ends, string-ends)) (c .before .before .before .before .before .before .before .before .before .before .before .before .before .before .put-four .ensures) tags (c .before .before .put-byte .ensures))))  -- Bytes(end)

@@ -3,7 +3,7 @@
 use native.Mathlib.Omega.{arith}
 use mathlib.Core.List.{append-assoc}
 use Rattle.payload.specs.Version.{versionText}
-use Rattle.payload.proofs.Appends.{next, renamed}
+use Rattle.payload.proofs.Appends.{then-put, renamed}
 use Rattle.payload.proofs.Versions.{length-version}
 use borrow.Author.Needs.{needs}
 use Rattle.payload.proofs.version.put.Statement.{statement}
@@ -20,4 +20,4 @@ put-spec =
     (λ c κs. omega (arith, length-version (c .before .before .before .before .before .before .before .before .before .before .before .before .before .before .args .version)))  -- a dot
     (λ c κs. omega (arith, length-version (c .before .before .before .before .before .before .before .before .before .before .before .before .before .before .before .before .before .before .args .version)))  -- patch
     (λ c. search needs)
-    (λ c. let l = length-version (c .before .before .before .before .before .before .before .before .before .before .before .before .before .before .before .before .before .before .before .before .before .args .version) in renamed (simp append-assoc) (next (omega arith) (next (omega arith) (next (omega arith) (next (omega arith) (c .before .before .before .before .before .before .before .before .before .before .before .before .before .before .before .before .before .before .put-part .ensures) (c .before .before .before .before .before .before .before .before .before .before .before .before .before .before .put-byte .ensures)) (c .before .before .before .before .before .before .before .before .before .before .put-part2 .ensures)) (c .before .before .before .before .before .before .put-byte2 .ensures)) (c .before .before .put-part3 .ensures))))
+    (λ c. let l = length-version (c .before .before .before .before .before .before .before .before .before .before .before .before .before .before .before .before .before .before .before .before .before .args .version) in renamed (simp append-assoc) (then-put (omega arith) (then-put (omega arith) (then-put (omega arith) (then-put (omega arith) (c .before .before .before .before .before .before .before .before .before .before .before .before .before .before .before .before .before .before .put-part .ensures) (c .before .before .before .before .before .before .before .before .before .before .before .before .before .before .put-byte .ensures)) (c .before .before .before .before .before .before .before .before .before .before .put-part2 .ensures)) (c .before .before .before .before .before .before .put-byte2 .ensures)) (c .before .before .put-part3 .ensures))))
