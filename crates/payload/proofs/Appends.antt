@@ -7,7 +7,7 @@ use native.Mathlib.Numerals.{add-one}
 use native.Mathlib.Omega.{arith}
 use borrow.Author.Tests.{le-leb, lt-leb}
 use borrow.Rule.Slice.PartMut.{putMid}
-use lib.ListN.{length, take, drop, set, length-append, length-take, length-drop, drop-of-length-le}
+use lib.ListN.{length, take, drop, set, length-append, length-take, drop-of-length-le}
 use lib.Seq.{length-take-le, take-all, take-at, drop-at, drop-drop, set-split, paste}
 use Rattle.numbers.specs.Bytes.{part, putAt, laid}
 use Rattle.numbers.proofs.Laws.{put-fits}
@@ -30,11 +30,9 @@ module _ (a b : List ℕ) {at n m : ℕ} {o p q : List ℕ} (room : at + length 
         puts = f .puts ∙ rw (near, far, append-assoc, append-assoc);
       }
 
--- the buffer keeps its length
-pub kept : (a : List ℕ) {at n : ℕ} {o p : List ℕ} → at + length a ≤ length o → Appended at a o n p → length p ≡ length o
-kept a {at} {o = o} room e =
-    let r = drop (at + length a) o in
-    ap length (e .puts) ∙ length-append (take at o) (a ++ r) ∙ omega (arith, length-append a r, length-take-le at o (omega arith), length-drop (at + length a) o)
+-- the same, by where the first piece ends
+pub then-put : {a b : List ℕ} {at n m : ℕ} {o p q : List ℕ} → n ≤ length o → Appended at a o n p → Appended n b p m q → Appended at (a ++ b) o m q
+then-put {a} {b} h e f = more a b (omega arith) e f
 
 -- the same bytes under another name
 pub renamed : {a b : List ℕ} {at m : ℕ} {o q : List ℕ} → a ≡ b → Appended at a o m q → Appended at b o m q
@@ -54,29 +52,20 @@ number-put w b at o q l h e =
     let z : at + w ≡ at + length b = omega arith in
     record { ends = z; puts = e ∙ put-fits o at w b h ∙ f ∙ rw z }
 
--- a part of the buffer that holds the bytes and nothing else
-pub part-put : (b : List ℕ) (at n : ℕ) (o q r : List ℕ) → n ≡ at + length b → r ≡ b → q ≡ putMid at (n - at) o r → Appended at b o n q
-part-put b at n o q r e f g =
+-- bytes laid into a part of the buffer that is as long as they are
+pub part-put : (b : List ℕ) (at n : ℕ) (o : List ℕ) {r : List ℕ} → n ≡ at + length b → r ≡ laid b (part o at (n - at)) → Appended at b o n (putMid at (n - at) o r)
+part-put b at n o e f =
     let z : n - at ≡ length b = omega arith in
-    record { ends = e; puts = g ∙ rw (z, f, drop-drop) }
-
--- a part as long as the bytes is all theirs
-pub filled : (b o : List ℕ) (at w : ℕ) → length b ≡ w → laid b (part o at w) ≡ b
-filled b o at w l =
-    let m : drop (length b) (part o at w) ≡ [] = drop-of-length-le (part o at w) {i = length b} (omega (arith, length-take w (drop at o))) in
-    rw m (append-nil b)
+    let m : drop (length b) (part o at (length b)) ≡ [] = drop-of-length-le (part o at (length b)) {i = length b} (omega (arith, length-take (length b) (drop at o))) in
+    record { ends = e; puts = rw (f, z, m, append-nil, drop-drop) }
 
 -- what a public writer answers
-module _ (b o : List ℕ) (n : ℕ) (e : n ≡ length b) where
-  pub too-small : length o < n → wrote (Refused 11) o ≡ putOf b o
-  too-small h = rw (← e, lt-leb n (length o) h)
+module _ (b o : List ℕ) (k : ℕ) (e : length b ≡ k) where
+  pub too-small : length o < k → wrote (Refused 11) o ≡ putOf b o
+  too-small h = rw (e, lt-leb k (length o) h)
 
-  pub all-put : {m : ℕ} {q : List ℕ} → n ≤ length o → Appended 0 b o m q → wrote (Bytes n) q ≡ putOf b o
-  all-put h f =
+  pub all-put : {n m : ℕ} {q : List ℕ} → n ≡ k → k ≤ length o → Appended 0 b o m q → wrote (Bytes n) q ≡ putOf b o
+  all-put s h f =
       let z : 0 + length b ≡ length b = omega arith in
       let g : placed 0 b o ≡ laid b o = rw z in
-      ap (wrote (Bytes n)) (f .puts ∙ g) ∙ rw (← e, le-leb n (length o) h)
-
--- the bytes that were put are the buffer's first ones
-pub put-front : (b o : List ℕ) → take (length b) (laid b o) ≡ b
-put-front b o = take-at b (drop (length b) o) (length b) refl
+      rw (s, f .puts, g, e, le-leb k (length o) h)

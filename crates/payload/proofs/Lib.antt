@@ -1,6 +1,5 @@
 pub mod Within
 pub mod Order
-pub mod Accepting
 pub mod TopLevel
 pub mod Figures
 pub mod Appends
@@ -8,7 +7,6 @@ pub mod Versions
 pub mod Replies
 pub mod VersionLaws
 pub mod VersionOrder
-pub mod ReplyLaws
 pub mod Cases
 pub mod ReadBack
 mod Outcomes

@@ -7,13 +7,13 @@ use mathlib.Core.List.{List}
 use mathlib.Core.Bool.{Bool, true, false}
 use native.Mathlib.Omega.{arith}
 use lib.ListN.{length, getD}
-use lib.Dec.{ltb, eqb}
+use lib.Dec.{eqb}
 use borrow.Author.Tests.{lt-ltb, le-ltb, ne-eqb, le-leb, lt-leb}
 use Rattle.numbers.specs.Bytes.{part}
 use Rattle.numbers.specs.Numbers.{valueLe}
 use Rattle.numbers.proofs.Choices.{either, unless-elim}
 use Rattle.payload.specs.Tags.{clashes, noTags}
-use Rattle.payload.specs.Walk.{readType, nests, plainOf, tagAt, keyStop, headOf, pastPlain, pastNested, Nested, valueOf, elementOf, andThen, elements, documentFits, documentOf, answer, lengthFits, payloadOf}
+use Rattle.payload.specs.Walk.{readType, plainOf, tagAt, keyStop, headOf, pastPlain, pastNested, Nested, valueOf, elementOf, andThen, elements, documentFits, documentOf, answer, lengthFits, payloadOf}
 use Rattle.payload.specs.declared.Tags.{Tags}
 use Rattle.payload.specs.declared.Tag.{Tag}
 use Rattle.payload.specs.declared.Skip.{Skip}
@@ -24,7 +24,7 @@ use Rattle.payload.specs.declared.Walk.{Walk}
 use Rattle.payload.specs.declared.Walk.the-variants.{Past, Fault}
 use Rattle.payload.specs.declared.Payload.{Payload}
 use Rattle.payload.specs.declared.Payload.the-variants.{Accepted, Refused}
-use Rattle.payload.proofs.Within.{Inside, WalkIn, element-in}
+use Rattle.payload.proofs.Within.{head-by, element-by, elements-by, Inside, WalkIn, element-in}
 
 -- an element: a type that is not read is 31, whatever follows it
 module _ (nested : Nested) (top : Bool) (s : List ℕ) (at end : ℕ) (t : Tags) where
@@ -86,11 +86,7 @@ WalkRange (Past n t) = Unit {0}
 WalkRange (Fault k) = (31 ≤ k) × (k ≤ 34)
 
 head-range : (top : Bool) (s : List ℕ) (at end : ℕ) (t : Tags) → HeadRange (headOf top s at end t)
-unfolding headOf
-head-range top s at end t =
-    unless-elim HeadRange (readType (getD s at 0)) (Bad 31) _ (λ e. omega arith)
-    (λ e. unless-elim HeadRange (ltb (keyStop s at end) end) (Bad 32) _ (λ e. omega arith)
-    (λ e. either HeadRange (clashes t (tagAt top s (at + 1) (keyStop s at end)) (getD s at 0)) (Bad 34) _ (λ e. omega arith) (λ e. tt)))
+head-range top s at end t = head-by HeadRange top s at end t (omega arith) (omega arith) (omega arith) (λ l c. tt)
 
 plain-range : (s : List ℕ) (w : Skip) (t : Tags) (tag : Tag) (v : ℕ) → WalkRange (pastPlain s w t tag v)
 plain-range s (To n) t tag v = tt
@@ -105,25 +101,15 @@ then-range (Past n t) rest h r = r n t
 then-range (Fault k) rest h r = h
 
 module _ (nested : Nested) (r : (v end : ℕ) (t : Tags) → WalkRange (nested v end t)) (top : Bool) (s : List ℕ) where
-  value-range : (end : ℕ) (t : Tags) (x : Head) → HeadRange x → WalkRange (valueOf nested s end t x)
-  value-range end t (Bad k) h = h
-  value-range end t (Value kind tag v) h =
-      either WalkRange (nests kind) _ _
-      (λ e. nested-range s (nested v end t) tag v (r v end t))
-      (λ e. plain-range s (plainOf s v end kind) t tag v)
-
   element-range : (at end : ℕ) (t : Tags) → WalkRange (elementOf nested top s at end t)
-  unfolding elementOf
-  element-range at end t = value-range end t (headOf top s at end t) (head-range top s at end t)
+  element-range at end t =
+      element-by WalkRange HeadRange nested top s at end t (head-range top s at end t) (λ k h. h)
+      (λ kind tag v h e. nested-range s (nested v end t) tag v (r v end t))
+      (λ kind tag v h e. plain-range s (plainOf s v end kind) t tag v)
 
   elements-range : (bound at end : ℕ) (t : Tags) → WalkRange (elements bound nested top s at end t)
-  unfolding elements
-  elements-range zero at end t = omega arith
-  elements-range (suc bound) at end t =
-      unless-elim WalkRange (ltb at end) (Fault 32) _ (λ e. omega arith)
-      (λ e. either WalkRange (eqb (getD s at 0) 0) _ _
-      (λ z. unless-elim WalkRange (eqb (at + 1) end) (Fault 32) (Past end t) (λ e. omega arith) (λ e. tt))
-      (λ z. then-range (elementOf nested top s at end t) _ (element-range at end t) (λ n u. elements-range bound n end u)))
+  elements-range bound at end t =
+      elements-by (λ (u : Tags) (w : Walk). WalkRange w) nested top s end (λ u. omega arith) (λ u. tt) (λ i u rest h. then-range (elementOf nested top s i end u) rest (element-range i end u) h) bound at t
 
 pub document-range : (levels : ℕ) (top : Bool) (s : List ℕ) (at end : ℕ) (t : Tags) → WalkRange (documentOf levels top s at end t)
 unfolding documentOf

@@ -7,7 +7,7 @@ use mathlib.Core.List.{List, [], _∷_, _++_, append-assoc, append-nil}
 use native.Mathlib.Omega.{arith}
 use lib.Dec.{eqb}
 use lib.ListN.{length, take, drop, getD, length-append}
-use lib.Seq.{take-at, drop-at, getD-at, take-append-add, append-snoc}
+use lib.Seq.{take-at, drop-at, drop-drop, getD-at, getD-drop, take-append-add, append-snoc}
 use borrow.Author.Tests.{le-leb, lt-ltb, eq-eqb, ne-eqb, not-true}
 use Rattle.bytes.specs.Bytes.{indexOf, indexAfter, slice}
 use Rattle.lines.proofs.Turns.{both}
@@ -20,7 +20,6 @@ use Rattle.payload.specs.Version.{versionOf, versionText}
 use Rattle.payload.specs.Reply.{elementHead, document, int32Element, int64Element, stringElement, arrayElement, grantElements, rejectedElement, nameOf, ackPayload, serviceAckPayload, nakPayload, grantTags, ackTags, nakTags}
 use Rattle.payload.specs.declared.Tags.{Tags}
 use Rattle.payload.specs.declared.Tag.the-variants.{ProtocolVersion, HashId, Mtu}
-use Rattle.payload.specs.declared.Head.the-variants.{Value}
 use Rattle.payload.specs.declared.Skip.the-variants.{To}
 use Rattle.payload.specs.declared.Walk.the-variants.{Past}
 use Rattle.payload.specs.declared.Payload.the-variants.{Accepted}
@@ -29,6 +28,8 @@ use Rattle.payload.specs.declared.version.VersionText.the-variants.{Good
 use Rattle.payload.specs.declared.reply.Parameter.{Parameter}
 use Rattle.payload.specs.declared.reply.Parameter.the-variants as parameter
 use Rattle.payload.proofs.Replies.{length-head, length-document, length-int32, length-string, length-grant}
+use Rattle.payload.proofs.Outcomes.{payload-walked}
+use Rattle.payload.proofs.Rest.{document-elements}
 use Rattle.payload.proofs.Versions.{version-most}
 use Rattle.payload.proofs.VersionLaws.{written-read}
 
@@ -44,130 +45,84 @@ key-end (b ∷ key) after e =
     let z = both (not (eqb b 0)) (noZero key) e in
     rw (not-true (eqb b 0) (z .0), key-end key after (z .1))
 
--- an element's head between any bytes
-module _ (before key after : List ℕ) (kind at : ℕ) (here : length before ≡ at) where
-  type-here : getD (before ++ (elementHead kind key ++ after)) at 0 ≡ kind
-  unfolding elementHead
-  type-here = getD-at before kind ((key ++ 0 ∷ []) ++ after) 0 at here
+-- an element at its place, between any bytes, in a document that ends n bytes past its head
+record Stands (before key after s : List ℕ) (kind at n end : ℕ) : Type 0 where
+  is : s ≡ before ++ (elementHead kind key ++ after)
+  here : length before ≡ at
+  within : end ≡ at + 1 + length key + 1 + n
+  free : noZero key ≡ true
 
-  past-type : drop (at + 1) (before ++ (elementHead kind key ++ after)) ≡ key ++ 0 ∷ after
-  unfolding elementHead
-  past-type =
-      let l : length (before ++ kind ∷ []) ≡ at + 1 = length-append before (kind ∷ []) ∙ omega arith in
-      rw (append-snoc key 0 after, ← append-snoc before kind (key ++ 0 ∷ after)) (drop-at (before ++ kind ∷ []) (key ++ 0 ∷ after) (at + 1) l)
-
-  past-key : drop (at + 1 + length key + 1) (before ++ (elementHead kind key ++ after)) ≡ after
-  past-key =
-      let l : length (before ++ elementHead kind key) ≡ at + 1 + length key + 1 = length-append before (elementHead kind key) ∙ omega (arith, length-head kind key) in
-      rw (← append-assoc before (elementHead kind key) after) (drop-at (before ++ elementHead kind key) after (at + 1 + length key + 1) l)
-
--- the bytes taken up to an end inside what follows the head
-head-taken : (before key after : List ℕ) (kind at n : ℕ) → length before ≡ at
-    → take (at + 1 + length key + 1 + n) (before ++ (elementHead kind key ++ after)) ≡ before ++ (elementHead kind key ++ take n after)
-head-taken before key after kind at n here =
-    let l : length (before ++ elementHead kind key) + n ≡ at + 1 + length key + 1 + n = ap (λ (i : ℕ). i + n) (length-append before (elementHead kind key)) ∙ omega (arith, length-head kind key) in
-    rw (← append-assoc before (elementHead kind key) after, ← l, take-append-add (before ++ elementHead kind key) after n, append-assoc)
-
--- an element at its place, in a document that ends n bytes past the head
-module _ (before key after s : List ℕ) (kind at n end : ℕ) (t : Tags) (is : s ≡ before ++ (elementHead kind key ++ after)) (here : length before ≡ at)
-    (within : end ≡ at + 1 + length key + 1 + n) (free : noZero key ≡ true) (read : readType kind ≡ true) where
+module _ {before key after s : List ℕ} {kind at n end : ℕ} (w : Stands before key after s kind at n end) where
   abbrev v : ℕ
   v = at + 1 + length key + 1
 
+  type-is : getD s at 0 ≡ kind
+  unfolding elementHead
+  type-is = rw (w .is) (getD-at before kind ((key ++ 0 ∷ []) ++ after) 0 at (w .here))
+
+  past-type : (r : List ℕ) → drop (at + 1) (before ++ (elementHead kind key ++ r)) ≡ key ++ 0 ∷ r
+  unfolding elementHead
+  past-type r =
+      let l : length (before ++ kind ∷ []) ≡ at + 1 = length-append before (kind ∷ []) ∙ omega (arith, w .here) in
+      rw (append-snoc key 0 r, ← append-snoc before kind (key ++ 0 ∷ r)) (drop-at (before ++ kind ∷ []) (key ++ 0 ∷ r) (at + 1) l)
+
+  past-head : length (before ++ elementHead kind key) ≡ v
+  past-head = length-append before (elementHead kind key) ∙ omega (arith, w .here, length-head kind key)
+
+  value-is : drop v s ≡ after
+  value-is = rw (w .is, ← append-assoc before (elementHead kind key) after) (drop-at (before ++ elementHead kind key) after v past-head)
+
+  taken : take end s ≡ before ++ (elementHead kind key ++ take n after)
+  taken =
+      let l : end ≡ length (before ++ elementHead kind key) + n = omega (arith, w .within, past-head) in
+      rw (w .is, l, ← append-assoc before (elementHead kind key) after, take-append-add (before ++ elementHead kind key) after n, append-assoc)
+
   stop-here : keyStop s at end ≡ at + 1 + length key
   unfolding slice
-  stop-here = rw (is, within, head-taken before key after kind at n here, past-type before key (take n after) kind at here, key-end key (take n after) free)
-
-  type-is : getD s at 0 ≡ kind
-  type-is = rw is (type-here before key after kind at here)
+  stop-here = rw (taken, past-type (take n after), key-end key (take n after) (w .free))
 
   key-is : part s (at + 1) (at + 1 + length key - (at + 1)) ≡ key
   key-is =
       let z : at + 1 + length key - (at + 1) ≡ length key = omega arith in
-      rw (is, past-type before key after kind at here, z) (take-at key (0 ∷ after) (length key) refl)
+      rw (w .is, past-type after, z) (take-at key (0 ∷ after) (length key) refl)
 
-  value-is : (w : ℕ) → part s v w ≡ take w after
-  value-is w = rw (is, past-key before key after kind at here)
-
-  head-top : clashes t (tagOf key) kind ≡ false → headOf true s at end t ≡ Value kind (tagOf key) v
-  unfolding headOf
-  head-top c = rw (stop-here, type-is, key-is, read, lt-ltb (at + 1 + length key) end (omega arith), c)
-
-  plain-top : (nested : Nested) {next : ℕ} → clashes t (tagOf key) kind ≡ false → nests kind ≡ false → plainOf s v end kind ≡ To next
+  -- of a type that is read and holds no document
+  plain-top : (nested : Nested) (t : Tags) {next : ℕ} → readType kind ≡ true → clashes t (tagOf key) kind ≡ false → nests kind ≡ false → plainOf s v end kind ≡ To next
       → elementOf nested true s at end t ≡ Past next (withTag s t (tagOf key) v)
-  unfolding elementOf
-  plain-top nested c p e = rw (head-top c, p, e)
-
--- the values of the three plain types that are written
-module _ (s : List ℕ) (v end : ℕ) where
-  int32-value : 4 ≤ end - v → plainOf s v end 0x10 ≡ To (v + 4)
-  unfolding plainOf fixedOf
-  int32-value h = rw (le-leb 4 (end - v) h)
-
-  int64-value : 8 ≤ end - v → plainOf s v end 0x12 ≡ To (v + 8)
-  unfolding plainOf fixedOf
-  int64-value h = rw (le-leb 8 (end - v) h)
-
-  string-value : (n : ℕ) → valueLe (part s v 4) ≡ n → 1 ≤ n → 4 + n ≤ end - v → getD s (v + 3 + n) 0 ≡ 0 → plainOf s v end 0x02 ≡ To (v + 4 + n)
-  unfolding plainOf stringOf
-  string-value n e l h z = rw (e, le-leb 4 (end - v) (omega arith), le-leb 1 n l, le-leb n (end - v - 4) (omega arith), z)
+  unfolding headOf elementOf
+  plain-top nested t r c p e = rw (stop-here, type-is, key-is, r, lt-ltb (at + 1 + length key) end (omega (arith, w .within)), c, p, e)
 
 -- a number behind any bytes reads back
 number-first : (w x : ℕ) (after : List ℕ) → x < 256 ^ w → valueLe (take w (bytesLe w x ++ after)) ≡ x
 number-first w x after h = rw (take-at (bytesLe w x) after w (length-le w x)) (read-written-le w x h)
 
--- one element of each type, at the top: where the reader goes on, and the value that it finds
-module _ (before key after s : List ℕ) (at n end : ℕ) (t : Tags) (here : length before ≡ at) (free : noZero key ≡ true) (nested : Nested) where
-  int32-read : (x : ℕ) → s ≡ before ++ (int32Element key x ++ after) → x < 2 ^ 32 → end ≡ at + 1 + length key + 1 + (4 + n) → clashes t (tagOf key) 0x10 ≡ false
-      → (elementOf nested true s at end t ≡ Past (at + 1 + length key + 1 + 4) (withTag s t (tagOf key) (at + 1 + length key + 1)))
-      × (getD s at 0 ≡ 0x10) × (valueLe (part s (at + 1 + length key + 1) 4) ≡ x)
-  unfolding int32Element
-  int32-read x e h within c =
-      let r = bytesLe 4 x ++ after in
-      let is : s ≡ before ++ (elementHead 0x10 key ++ r) = e ∙ ap (λ (l : List ℕ). before ++ l) (append-assoc (elementHead 0x10 key) (bytesLe 4 x) after) in (
-        plain-top before key r s 0x10 at (4 + n) end t is here within free refl nested c refl (int32-value s (at + 1 + length key + 1) end (omega arith)),
-        type-is before key r s 0x10 at (4 + n) end t is here within free refl,
-        ap valueLe (value-is before key r s 0x10 at (4 + n) end t is here within free refl 4) ∙ number-first 4 x after h,
-      )
+-- an element at the top: where the reader goes on, and the value that it finds; first of a number of w bytes, whose type is known
+module _ (nested : Nested) (t : Tags) {before key s : List ℕ} {at end : ℕ} where
+  number-read : (w x : ℕ) (after : List ℕ) (n : ℕ) {kind : ℕ} → Stands before key (bytesLe w x ++ after) s kind at (w + n) end → x < 256 ^ w → readType kind ≡ true
+      → clashes t (tagOf key) kind ≡ false → nests kind ≡ false → ((v : ℕ) → w ≤ end - v → plainOf s v end kind ≡ To (v + w))
+      → (elementOf nested true s at end t ≡ Past (at + 1 + length key + 1 + w) (withTag s t (tagOf key) (at + 1 + length key + 1)))
+      × (getD s at 0 ≡ kind) × (valueLe (part s (at + 1 + length key + 1) w) ≡ x)
+  number-read w x after n e h r c p g = (
+    plain-top e nested t r c p (g (at + 1 + length key + 1) (omega (arith, e .within))),
+    type-is e,
+    rw (value-is e) (number-first w x after h),
+  )
 
-  int64-read : (x : ℕ) → s ≡ before ++ (int64Element key x ++ after) → x < 2 ^ 64 → end ≡ at + 1 + length key + 1 + (8 + n) → clashes t (tagOf key) 0x12 ≡ false
-      → (elementOf nested true s at end t ≡ Past (at + 1 + length key + 1 + 8) (withTag s t (tagOf key) (at + 1 + length key + 1)))
-      × (getD s at 0 ≡ 0x12) × (valueLe (part s (at + 1 + length key + 1) 8) ≡ x)
-  unfolding int64Element
-  int64-read x e h within c =
-      let r = bytesLe 8 x ++ after in
-      let is : s ≡ before ++ (elementHead 0x12 key ++ r) = e ∙ ap (λ (l : List ℕ). before ++ l) (append-assoc (elementHead 0x12 key) (bytesLe 8 x) after) in (
-        plain-top before key r s 0x12 at (8 + n) end t is here within free refl nested c refl (int64-value s (at + 1 + length key + 1) end (omega arith)),
-        type-is before key r s 0x12 at (8 + n) end t is here within free refl,
-        ap valueLe (value-is before key r s 0x12 at (8 + n) end t is here within free refl 8) ∙ number-first 8 x after h,
-      )
-
-  string-read : (text : List ℕ) → s ≡ before ++ (stringElement key text ++ after) → length text < 2 ^ 31 → end ≡ at + 1 + length key + 1 + (5 + length text + n)
+  string-read : (text after : List ℕ) (n : ℕ) → Stands before key (bytesLe 4 (length text + 1) ++ (text ++ 0 ∷ after)) s 0x02 at (5 + length text + n) end → length text < 2 ^ 31
       → clashes t (tagOf key) 0x02 ≡ false
       → (elementOf nested true s at end t ≡ Past (at + 1 + length key + 1 + 4 + (length text + 1)) (withTag s t (tagOf key) (at + 1 + length key + 1)))
       × (getD s at 0 ≡ 0x02) × (valueLe (part s (at + 1 + length key + 1) 4) ≡ length text + 1) × (part s (at + 1 + length key + 1 + 4) (length text) ≡ text)
-  unfolding stringElement
-  string-read text e h within c =
+  unfolding plainOf stringOf
+  string-read text after n e h c =
       let v = at + 1 + length key + 1 in
       let b = bytesLe 4 (length text + 1) in
-      let k = elementHead 0x02 key in
-      let r = b ++ (text ++ 0 ∷ after) in
-      let j : (k ++ (b ++ (text ++ 0 ∷ []))) ++ after ≡ k ++ r = simp append-assoc in
-      let is : s ≡ before ++ (k ++ r) = e ∙ ap (λ (l : List ℕ). before ++ l) j in
-      let x : valueLe (part s v 4) ≡ length text + 1
-      = ap valueLe (value-is before key r s 0x02 at (5 + length text + n) end t is here within free refl 4) ∙ number-first 4 (length text + 1) (text ++ 0 ∷ after) (omega arith) in
-      let lk = length-head 0x02 key in
       let lb : length b ≡ 4 = length-le 4 (length text + 1) in
-      let near : s ≡ (before ++ (k ++ b)) ++ (text ++ 0 ∷ after) = is ∙ simp append-assoc in
-      let ln : length (before ++ (k ++ b)) ≡ v + 4 = length-append before (k ++ b) ∙ omega (arith, length-append k b) in
-      let far : s ≡ (before ++ (k ++ (b ++ text))) ++ 0 ∷ after = is ∙ simp append-assoc in
-      let lf : length (before ++ (k ++ (b ++ text))) ≡ v + 3 + (length text + 1) = length-append before (k ++ (b ++ text)) ∙ omega (arith, length-append k (b ++ text), length-append b text) in
-      let z : getD s (v + 3 + (length text + 1)) 0 ≡ 0 = rw far (getD-at (before ++ (k ++ (b ++ text))) 0 after 0 (v + 3 + (length text + 1)) lf) in (
-        plain-top before key r s 0x02 at (5 + length text + n) end t is here within free refl nested c refl (string-value s v end (length text + 1) x (omega arith) (omega arith) z),
-        type-is before key r s 0x02 at (5 + length text + n) end t is here within free refl,
-        x,
-        rw (near, drop-at (before ++ (k ++ b)) (text ++ 0 ∷ after) (v + 4) ln) (take-at text (0 ∷ after) (length text) refl),
-      )
+      let x : valueLe (part s v 4) ≡ length text + 1 = rw (value-is e) (number-first 4 (length text + 1) (text ++ 0 ∷ after) (omega arith)) in
+      let near : drop (v + 4) s ≡ text ++ 0 ∷ after = sym (drop-drop 4 v s) ∙ rw (value-is e) (drop-at b (text ++ 0 ∷ after) 4 lb) in
+      let k : v + 4 + length text ≡ v + 3 + (length text + 1) = omega arith in
+      let z : getD s (v + 3 + (length text + 1)) 0 ≡ 0 = rw (← k, ← getD-drop) (rw near (getD-at text 0 after 0 (length text) refl)) in
+      let fits : plainOf s v end 0x02 ≡ To (v + 4 + (length text + 1)) = rw (x, le-leb 4 (end - v) (omega (arith, e .within)), le-leb 1 (length text + 1) (omega arith), le-leb (length text + 1) (end - v - 4) (omega (arith, e .within)), z) in
+      (plain-top e nested t refl c refl fits, type-is e, x, rw near (take-at text (0 ∷ after) (length text) refl))
 
 -- the elements one after another, up to the document's last byte
 module _ (nested : Nested) (s : List ℕ) (end bound : ℕ) where
@@ -190,25 +145,12 @@ module _ (e : List ℕ) (small : length e + 5 ≤ 1024) where
   size-here = number-first 4 (5 + length e) (e ++ 0 ∷ []) (omega arith)
 
   pub document-read : (bound : ℕ) → 5 + length e ≡ bound → payloadOf (document e) ≡ answer (elements bound inner true (document e) 4 (5 + length e) noTags)
-  unfolding payloadOf documentOf
   document-read bound z =
-      let l : length (document e) ≡ 5 + length e = omega (arith, length-document e) in
-      let n : 5 + length e ≡ 0 → ⊥ = λ k. omega arith in
-      let d : 5 + length e - 0 ≡ 5 + length e = omega arith in
+      let s = document e in
+      let l : length s ≡ 5 + length e = omega (arith, length-document e) in
       let k : 0 + (5 + length e) ≡ 5 + length e = omega arith in
-      rw (
-        l,
-        size-here,
-        ne-eqb (5 + length e) 0 n,
-        le-leb 5 (5 + length e) (omega arith),
-        le-leb (5 + length e) 1024 (omega arith),
-        eq-eqb (5 + length e) (5 + length e) refl,
-        d,
-        le-leb 4 (5 + length e) (omega arith),
-        le-leb (5 + length e) (5 + length e) (omega arith),
-        k,
-      )
-      (ap (λ (b : ℕ). answer (elements b inner true (document e) 4 (5 + length e) noTags)) z)
+      let w = document-elements true s 0 (length s) noTags (5 + length e) (sym size-here) 8 (λ k. omega arith) (omega arith) (omega arith) (omega arith) in
+      sym (payload-walked s (5 + length e) (sym size-here) (λ k. omega arith) (omega arith) (omega arith) (omega arith) _ 8 noTags w refl refl) ∙ rw (k, z)
 
   last-byte : (at : ℕ) → at ≡ 4 + length e → getD (document e) at 0 ≡ 0
   unfolding document
@@ -219,14 +161,15 @@ module _ (e : List ℕ) (small : length e + 5 ≤ 1024) where
       rw (← append-assoc b e (0 ∷ [])) (getD-at (b ++ e) 0 [] 0 at l)
 
   -- an element that follows others in the document
-  place : (a x c : List ℕ) → e ≡ a ++ (x ++ c) → document e ≡ (bytesLe 4 (5 + length e) ++ a) ++ (x ++ (c ++ 0 ∷ []))
+  stands : (a key value c : List ℕ) (kind at n : ℕ) → e ≡ a ++ ((elementHead kind key ++ value) ++ c) → 4 + length a ≡ at → 5 + length e ≡ at + 1 + length key + 1 + n → noZero key ≡ true
+      → Stands (bytesLe 4 (5 + length e) ++ a) key (value ++ (c ++ 0 ∷ [])) (document e) kind at n (5 + length e)
   unfolding document
-  place a x c h =
-      let b = bytesLe 4 (5 + length e) in
-      ap (λ (l : List ℕ). b ++ (l ++ 0 ∷ [])) h ∙ simp append-assoc
-
-  place-length : (a : List ℕ) → length (bytesLe 4 (5 + length e) ++ a) ≡ 4 + length a
-  place-length a = length-append (bytesLe 4 (5 + length e)) a ∙ omega (arith, length-le 4 (5 + length e))
+  stands a key value c kind at n h k w f = record {
+    is = ap (λ (l : List ℕ). bytesLe 4 (5 + length e) ++ (l ++ 0 ∷ [])) h ∙ simp append-assoc;
+    here = length-append (bytesLe 4 (5 + length e)) a ∙ omega (arith, length-le 4 (5 + length e));
+    within = w;
+    free = f;
+  }
 
 -- what the ACKs share: hashId and mtu, and then any elements
 module _ (h m : ℕ) (rest : List ℕ) (hash32 : h < 2 ^ 32) (mtu64 : m < 2 ^ 64) (small : length (grantElements h m ++ rest) + 5 ≤ 1024) where
@@ -238,18 +181,19 @@ module _ (h m : ℕ) (rest : List ℕ) (hash32 : h < 2 ^ 32) (mtu64 : m < 2 ^ 64
 
   grant-read : (bound : ℕ) → elements (suc (suc bound)) (inner all small) true (document all) 4 (5 + length all) noTags
       ≡ elements bound (inner all small) true (document all) 29 (5 + length all) (grantTags h m)
-  unfolding grantElements tagOf
+  unfolding grantElements int32Element int64Element tagOf plainOf fixedOf
   grant-read bound =
       let s = document all in
       let end : ℕ = 5 + length all in
       let a = int32Element hashId h in
       let b = int64Element mtu m in
-      let l = bytesLe 4 (5 + length all) in
       let u = withTag s noTags HashId 12 in
-      let y = int32-read (l ++ []) hashId ((b ++ rest) ++ 0 ∷ []) s 4 (14 + length rest) end noTags (place-length all small []) refl (inner all small) h
-      (place all small [] a (b ++ rest) (append-assoc a b rest)) hash32 (omega (arith, length-all)) refl in
-      let z = int64-read (l ++ a) mtu (rest ++ 0 ∷ []) s 16 (1 + length rest) end u (place-length all small a ∙ omega (arith, length-int32 hashId h)) refl (inner all small) m
-      (place all small a b rest (append-assoc a b rest)) mtu64 (omega (arith, length-all)) refl in
+      let y = number-read (inner all small) noTags 4 h ((b ++ rest) ++ 0 ∷ []) (14 + length rest)
+      (stands all small [] hashId (bytesLe 4 h) (b ++ rest) 0x10 4 (4 + (14 + length rest)) (append-assoc a b rest) refl (omega (arith, length-all)) refl)
+      hash32 refl refl refl (λ v k. rw (le-leb 4 (end - v) k)) in
+      let z = number-read (inner all small) u 8 m (rest ++ 0 ∷ []) (1 + length rest)
+      (stands all small a mtu (bytesLe 8 m) rest 0x12 16 (8 + (1 + length rest)) (append-assoc a b rest) (omega (arith, length-int32 hashId h)) (omega (arith, length-all)) refl)
+      mtu64 refl refl refl (λ v k. rw (le-leb 8 (end - v) k)) in
       one-more (inner all small) s end (suc bound) 4 16 0x10 noTags u (omega (arith, length-all)) (λ k. omega arith) (y .1) (y .0)
       ∙ one-more (inner all small) s end bound 16 29 0x12 u (withTag s u Mtu 21) (omega (arith, length-all)) (λ k. omega arith) (z .1) (z .0)
       ∙ ap (λ (t : Tags). elements bound (inner all small) true s 29 end t) (tags (y .2) (z .2))
@@ -291,12 +235,12 @@ module _ (h m : ℕ) (v : Version) (hash32 : h < 2 ^ 32) (mtu64 : m < 2 ^ 64) (m
 
   string-here : (elementOf (inner e small) true (document e) 29 (5 + length e) (grantTags h m) ≡ Past (50 + (length text + 1)) (withTag (document e) (grantTags h m) ProtocolVersion 46))
       × (getD (document e) 29 0 ≡ 0x02) × (valueLe (part (document e) 46 4) ≡ length text + 1) × (part (document e) 50 (length text) ≡ text)
-  unfolding tagOf
+  unfolding tagOf stringElement
   string-here =
-      string-read (bytesLe 4 (5 + length e) ++ grantElements h m) protocolVersion (0 ∷ []) (document e) 29 1 (5 + length e) (grantTags h m)
-      (place-length e small (grantElements h m) ∙ omega (arith, length-grant h m)) refl (inner e small) text
-      (place e small (grantElements h m) string [] (ap (λ (l : List ℕ). grantElements h m ++ l) (sym (append-nil string))))
-      (omega (arith, version-most v major8 minor8 patch8)) (omega (arith, size)) refl
+      string-read (inner e small) (grantTags h m) text (0 ∷ []) 1
+      (rw (append-assoc, append-assoc) at (stands e small (grantElements h m) protocolVersion (bytesLe 4 (length text + 1) ++ (text ++ 0 ∷ [])) [] 0x02 29 (5 + length text + 1)
+      (ap (λ (l : List ℕ). grantElements h m ++ l) (sym (append-nil string))) (omega (arith, length-grant h m)) (omega (arith, size)) refl))
+      (omega (arith, version-most v major8 minor8 patch8)) refl
 
   tags-here : valueLe (part (document e) 46 4) ≡ length text + 1 → withTag (document e) (grantTags h m) ProtocolVersion 46 ≡ ackTags h m v
   tags-here p =

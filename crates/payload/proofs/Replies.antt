@@ -1,5 +1,5 @@
--- Each element and payload that is written: how many bytes it has, and that it stands in the buffer after its pieces were put there one after
--- another. By `more`, once for each piece. First document 01's marked payloads, by computation. Assumes nothing.
+-- Each element and payload that is written: how many bytes it has, and where it ends in the buffer; and a document, which stands there after its
+-- pieces were put one behind the other. First document 01's marked payloads, by computation. Assumes nothing.
 use Prim.Native.Nat.{ℕ, _+_, _-_, _≤_, _<_}
 use mathlib.Core.Path.{_≡_, refl, _∙_}
 use mathlib.Core.List.{List, [], _∷_, _++_, append-assoc}
@@ -14,7 +14,7 @@ use Rattle.lines.specs.Decimal.{digitsBy, decimalOf}
 use Rattle.payload.specs.Version.{version, versionText}
 use Rattle.payload.specs.Reply.{firstKey, elementHead, document, int32Element, int64Element, stringElement, arrayElement, grantElements, rejectedElement, ackPayload, serviceAckPayload, nakPayload}
 use Rattle.payload.specs.declared.version.Version.{Version}
-use Rattle.payload.proofs.Appends.{more, renamed, kept}
+use Rattle.payload.proofs.Appends.{then-put, renamed}
 use Rattle.payload.proofs.Versions.{version-most}
 
 -- "Payload for "5.4.1": `20 00 00 00 02`, "protocolVersion" and 0, `06 00 00 00`, "5.4.1", two zeros: 32 bytes."; the ACK's payload with it, for
@@ -43,65 +43,30 @@ module _ (kind : ℕ) (key : List ℕ) where
   unfolding elementHead
   length-head = omega (arith, length-append key (0 ∷ []))
 
-  pub head-put : {at n₁ n₂ m : ℕ} {o p₁ p₂ q : List ℕ} → at + (length key + 2) ≤ length o
-      → Appended at (kind ∷ []) o n₁ p₁ → Appended n₁ key p₁ n₂ p₂ → Appended n₂ (0 ∷ []) p₂ m q → Appended at (elementHead kind key) o m q
-  unfolding elementHead
-  head-put room e₁ e₂ e₃ = more (kind ∷ key) (0 ∷ []) (omega arith) (more (kind ∷ []) key (omega arith) e₁ e₂) e₃
-
 -- a document around its elements
 module _ (elements : List ℕ) where
   pub length-document : length (document elements) ≡ length elements + 5
   unfolding document
   length-document = simp (length-append, length-le) (omega arith)
 
-  pub document-put : {at n₁ n₂ m : ℕ} {o p₁ p₂ q : List ℕ} (size : ℕ) → size ≡ 5 + length elements → at + (length elements + 5) ≤ length o
+  pub document-put : {at n₁ n₂ m : ℕ} {o p₁ p₂ q : List ℕ} (size : ℕ) → size ≡ 5 + length elements → n₂ ≤ length o
       → Appended at (bytesLe 4 size) o n₁ p₁ → Appended n₁ elements p₁ n₂ p₂ → Appended n₂ (0 ∷ []) p₂ m q → Appended at (document elements) o m q
   unfolding document
-  document-put size z room e₁ e₂ e₃ =
-      let s = bytesLe 4 (5 + length elements) in
-      let l : length s ≡ 4 = length-le 4 (5 + length elements) in
-      let k : length (s ++ elements) ≡ 4 + length elements = length-append s elements ∙ omega arith in
-      let e : Appended _ s _ _ _ = rw z at e₁ in
-      renamed (append-assoc s elements (0 ∷ [])) (more (s ++ elements) (0 ∷ []) (omega arith) (more s elements (omega arith) e e₂) e₃)
+  document-put size z room e₁ e₂ e₃ = renamed (append-assoc (bytesLe 4 (5 + length elements)) elements (0 ∷ [])) (then-put room (then-put (omega arith) (rw z at e₁) e₂) e₃)
 
 module _ (key : List ℕ) (x : ℕ) where
   pub length-int32 : length (int32Element key x) ≡ length key + 6
   unfolding int32Element
   length-int32 = length-append (elementHead 0x10 key) (bytesLe 4 x) ∙ omega (arith, length-head 0x10 key, length-le 4 x)
 
-  pub int32-put : {at n m : ℕ} {o p q : List ℕ} → at + (length key + 6) ≤ length o
-      → Appended at (elementHead 0x10 key) o n p → Appended n (bytesLe 4 x) p m q → Appended at (int32Element key x) o m q
-  unfolding int32Element
-  int32-put room e₁ e₂ = more (elementHead 0x10 key) (bytesLe 4 x) (omega (arith, length-head 0x10 key)) e₁ e₂
-
   pub length-int64 : length (int64Element key x) ≡ length key + 10
   unfolding int64Element
   length-int64 = length-append (elementHead 0x12 key) (bytesLe 8 x) ∙ omega (arith, length-head 0x12 key, length-le 8 x)
-
-  pub int64-put : {at n m : ℕ} {o p q : List ℕ} → at + (length key + 10) ≤ length o
-      → Appended at (elementHead 0x12 key) o n p → Appended n (bytesLe 8 x) p m q → Appended at (int64Element key x) o m q
-  unfolding int64Element
-  int64-put room e₁ e₂ = more (elementHead 0x12 key) (bytesLe 8 x) (omega (arith, length-head 0x12 key)) e₁ e₂
 
 module _ (key text : List ℕ) where
   pub length-string : length (stringElement key text) ≡ length key + length text + 7
   unfolding stringElement
   length-string = simp (length-append, length-le) (omega (arith, length-head 0x02 key))
-
-  pub string-put : {at n₁ n₂ n₃ m : ℕ} {o p₁ p₂ p₃ q : List ℕ} (size : ℕ) → size ≡ length text + 1 → at + (length key + length text + 7) ≤ length o
-      → Appended at (elementHead 0x02 key) o n₁ p₁ → Appended n₁ (bytesLe 4 size) p₁ n₂ p₂ → Appended n₂ text p₂ n₃ p₃ → Appended n₃ (0 ∷ []) p₃ m q
-      → Appended at (stringElement key text) o m q
-  unfolding stringElement
-  string-put size z room e₁ e₂ e₃ e₄ =
-      let h = elementHead 0x02 key in
-      let s = bytesLe 4 (length text + 1) in
-      let lh = length-head 0x02 key in
-      let ls : length s ≡ 4 = length-le 4 (length text + 1) in
-      let e : Appended _ s _ _ _ = rw z at e₂ in
-      let l₂ : length (h ++ s) ≡ length key + 6 = length-append h s ∙ omega arith in
-      let l₃ : length ((h ++ s) ++ text) ≡ length key + 6 + length text = length-append (h ++ s) text ∙ omega arith in
-      renamed (simp append-assoc)
-      (more ((h ++ s) ++ text) (0 ∷ []) (omega arith) (more (h ++ s) text (omega arith) (more h s (omega arith) e₁ e) e₃) e₄)
 
 -- hashId and mtu
 module _ (h m : ℕ) where
@@ -109,19 +74,9 @@ module _ (h m : ℕ) where
   unfolding grantElements
   length-grant = length-append (int32Element hashId h) (int64Element mtu m) ∙ omega (arith, length-int32 hashId h, length-int64 mtu m)
 
-  pub grant-put : {at n k : ℕ} {o p q : List ℕ} → at + 25 ≤ length o
-      → Appended at (int32Element hashId h) o n p → Appended n (int64Element mtu m) p k q → Appended at (grantElements h m) o k q
-  unfolding grantElements
-  grant-put room e₁ e₂ = more (int32Element hashId h) (int64Element mtu m) (omega (arith, length-int32 hashId h)) e₁ e₂
-
   pub length-service-ack : length (serviceAckPayload h m) ≡ 30
   unfolding serviceAckPayload
   length-service-ack = omega (arith, length-document (grantElements h m), length-grant)
-
-  pub service-ack-put : {n₁ n₂ k : ℕ} {o p₁ p₂ q : List ℕ} → 30 ≤ length o
-      → Appended 0 (bytesLe 4 30) o n₁ p₁ → Appended n₁ (grantElements h m) p₁ n₂ p₂ → Appended n₂ (0 ∷ []) p₂ k q → Appended 0 (serviceAckPayload h m) o k q
-  unfolding serviceAckPayload
-  service-ack-put room = document-put (grantElements h m) 30 (omega (arith, length-grant)) (omega (arith, length-grant))
 
 -- the opening's ACK
 module _ (h m : ℕ) (v : Version) where
@@ -138,16 +93,6 @@ module _ (h m : ℕ) (v : Version) where
   pub ack-most : v .major < 256 → v .minor < 256 → v .patch < 256 → length (ackPayload h m v) ≤ 63
   ack-most a b c = omega (arith, length-ack, version-most v a b c)
 
-  pub ack-put : {n₁ n₂ n₃ k size : ℕ} {o p₁ p₂ p₃ q : List ℕ} → size ≡ length (versionText v) → 52 + size ≤ length o
-      → Appended 0 (bytesLe 4 (52 + size)) o n₁ p₁ → Appended n₁ (grantElements h m) p₁ n₂ p₂
-      → Appended n₂ (stringElement protocolVersion (versionText v)) p₂ n₃ p₃ → Appended n₃ (0 ∷ []) p₃ k q → Appended 0 (ackPayload h m v) o k q
-  unfolding ackPayload
-  ack-put {size = size} z room e₁ e₂ e₃ e₄ =
-      let l = length-le 4 (52 + size) in
-      let k = kept (bytesLe 4 (52 + size)) (omega arith) e₁ in
-      document-put tags (52 + size) (omega (arith, length-tags)) (omega (arith, length-tags)) e₁
-      (more (grantElements h m) (stringElement protocolVersion (versionText v)) (omega (arith, length-grant h m)) e₂ e₃) e₄
-
 -- a NAK
 module _ (name : List ℕ) where
   pub length-rejected : length (rejectedElement name) ≡ length name + 29
@@ -156,30 +101,33 @@ module _ (name : List ℕ) where
       length-append (elementHead 0x04 rejectedParams) (document (stringElement firstKey name))
       ∙ omega (arith, length-head 0x04 rejectedParams, length-document (stringElement firstKey name), length-string firstKey name)
 
-  pub rejected-put : {at n₁ n₂ n₃ k : ℕ} {o p₁ p₂ p₃ q : List ℕ} → at + (length name + 29) ≤ length o
-      → Appended at (elementHead 0x04 rejectedParams) o n₁ p₁ → Appended n₁ (bytesLe 4 (length name + 13)) p₁ n₂ p₂
-      → Appended n₂ (stringElement firstKey name) p₂ n₃ p₃ → Appended n₃ (0 ∷ []) p₃ k q → Appended at (rejectedElement name) o k q
-  unfolding rejectedElement arrayElement
-  rejected-put room e₁ e₂ e₃ e₄ =
-      let h = elementHead 0x04 rejectedParams in
-      let s = stringElement firstKey name in
-      let lh = length-head 0x04 rejectedParams in
-      let ls = length-string firstKey name in
-      let k = kept h (omega arith) e₁ in
-      more h (document s) (omega arith) e₁ (document-put s (length name + 13) (omega arith) (omega arith) e₂ e₃ e₄)
-
   pub length-nak : length (nakPayload name) ≡ 34 + length name
   unfolding nakPayload
   length-nak = omega (arith, length-document (rejectedElement name), length-rejected)
 
-  pub nak-put : {n₁ n₂ k : ℕ} {o p₁ p₂ q : List ℕ} → 34 + length name ≤ length o
-      → Appended 0 (bytesLe 4 (34 + length name)) o n₁ p₁ → Appended n₁ (rejectedElement name) p₁ n₂ p₂ → Appended n₂ (0 ∷ []) p₂ k q → Appended 0 (nakPayload name) o k q
-  unfolding nakPayload
-  nak-put room = document-put (rejectedElement name) (34 + length name) (omega (arith, length-rejected)) (omega (arith, length-rejected))
+-- where each piece ends, for `omega`, which finds the pieces by itself
+module _ (at n : ℕ) (o p : List ℕ) where
+  pub head-ends : (kind : ℕ) (key : List ℕ) → Appended at (elementHead kind key) o n p → n ≡ at + (length key + 2)
+  head-ends kind key e = omega (arith, length-head kind key)
+
+  pub number-ends : (w x : ℕ) → Appended at (bytesLe w x) o n p → n ≡ at + w
+  number-ends w x e = omega (arith, length-le w x)
+
+  pub int32-ends : (key : List ℕ) (x : ℕ) → Appended at (int32Element key x) o n p → n ≡ at + (length key + 6)
+  int32-ends key x e = omega (arith, length-int32 key x)
+
+  pub string-ends : (key text : List ℕ) → Appended at (stringElement key text) o n p → n ≡ at + (length key + length text + 7)
+  string-ends key text e = omega (arith, length-string key text)
+
+  pub grant-ends : (h m : ℕ) → Appended at (grantElements h m) o n p → n ≡ at + 25
+  grant-ends h m e = omega (arith, length-grant h m)
+
+  pub rejected-ends : (name : List ℕ) → Appended at (rejectedElement name) o n p → n ≡ at + (length name + 29)
+  rejected-ends name e = omega (arith, length-rejected name)
 
 -- the bytes put to the front of an array are its first ones
-pub text-back : (b : List ℕ) {o q : List ℕ} {n : ℕ} → Appended 0 b o n q → take (n - 0) (drop 0 q) ≡ b
-text-back b {o} {n = n} e =
+pub text-back : {b o q : List ℕ} {n : ℕ} → Appended 0 b o n q → take (n - 0) (drop 0 q) ≡ b
+text-back {b} {o} {n = n} e =
     let z : n - 0 ≡ length b = omega arith in
     rw (z, e .puts) (take-at b (drop (0 + length b) o) (length b) refl)
 

@@ -1,13 +1,12 @@
 -- Tests that the code makes are the tests of the definitions: the last of the read types, the comparison of a key with a name, and a tag's
 -- clash. Over plain numbers and lists. Assumes nothing.
 use Prim.Native.Nat.{ℕ}
-use mathlib.Core.Path.{_≡_, refl, ap, _∙_, sym}
+use mathlib.Core.Path.{_≡_, refl, _∙_, sym}
 use mathlib.Core.List.{List, [], _∷_}
 use mathlib.Core.Bool.{Bool, true, false, not}
-use native.Mathlib.Omega.{arith}
 use lib.Dec.{eqb}
 use borrow.Author.Tests.{eq-eqb, ne-eqb, eqb-true}
-use Rattle.numbers.proofs.Choices.{and-both}
+use Rattle.numbers.proofs.Choices.{and-both, split}
 use Rattle.payload.specs.Tags.{sameBytes, typed, found, clashes}
 use Rattle.payload.specs.Walk.{readType}
 use Rattle.payload.specs.declared.Tags.{Tags}
@@ -24,8 +23,8 @@ same-self (x ∷ xs) = rw (eq-eqb x x refl, same-self xs)
 
 same-eq : (a b : List ℕ) → sameBytes a b ≡ true → a ≡ b
 same-eq [] [] e = refl
-same-eq [] (y ∷ ys) e = let z : _≡_ {A = ℕ} 0 1 = cc in absurd (omega arith)
-same-eq (x ∷ xs) [] e = let z : _≡_ {A = ℕ} 0 1 = cc in absurd (omega arith)
+same-eq [] (y ∷ ys) e = cc
+same-eq (x ∷ xs) [] e = cc
 same-eq (x ∷ xs) (y ∷ ys) e =
     let both = and-both (eqb x y) (sameBytes xs ys) e in
     let p : x ≡ y = eqb-true x y (both .0) in
@@ -34,13 +33,9 @@ same-eq (x ∷ xs) (y ∷ ys) e =
 
 -- a test that holds just where two lists are equal is `sameBytes`
 pub test-is : (r : Bool) (a b : List ℕ) → (r ≡ true → a ≡ b) → (a ≡ b → r ≡ true) → r ≡ sameBytes a b
-test-is r a b f g = go r (sameBytes a b) refl refl
-  where
-    go : (x y : Bool) → r ≡ x → sameBytes a b ≡ y → r ≡ sameBytes a b
-    go true true p q = p ∙ sym q
-    go false false p q = p ∙ sym q
-    go true false p q = let e : a ≡ b = f p in sym (same-self a ∙ sym p) ∙ ap (λ (l : List ℕ). sameBytes a l) e
-    go false true p q = g (same-eq a b q) ∙ sym q
+test-is r a b f g =
+    split r (λ p. p ∙ sym (rw (← f p) (same-self a)))
+    (λ p. split (sameBytes a b) (λ q. g (same-eq a b q) ∙ sym q) (λ q. p ∙ sym q))
 
 -- a tag that was not found before clashes by its type alone
 pub clash-unless : (t : Tags) (tag tag' : Tag) (kind : ℕ) → tag ≡ tag' → found t tag ≡ false → not (typed tag' kind) ≡ clashes t tag kind

@@ -8,14 +8,14 @@ use mathlib.Core.Bool.{Bool, true, false, not, _||_}
 use native.Mathlib.Omega.{arith}
 use native.Mathlib.Nat.{pow-suc}
 use lib.ListN.{length, getD, take, drop}
-use lib.Dec.{leb, ltb, eqb}
-use borrow.Author.Tests.{leb-true, eqb-true}
+use lib.Dec.{eqb}
+use borrow.Author.Tests.{eqb-true}
 use Rattle.numbers.specs.Bytes.{AreBytes, part}
 use Rattle.numbers.specs.Numbers.{valueLe}
 use Rattle.numbers.proofs.Laws.{bytes-drop}
-use Rattle.numbers.proofs.Choices.{and-both, either, unless-elim}
-use Rattle.payload.specs.Tags.{typed, found, clashes, noTags, withTag}
-use Rattle.payload.specs.Walk.{readType, nests, stringFits, stringOf, plainOf, tagAt, keyStop, headOf, pastPlain, pastNested, Nested, valueOf, elementOf, andThen, elements, documentFits, documentOf, answer, lengthFits, payloadOf}
+use Rattle.numbers.proofs.Choices.{either, unless-elim}
+use Rattle.payload.specs.Tags.{typed, found, noTags, withTag}
+use Rattle.payload.specs.Walk.{nests, stringFits, stringOf, plainOf, tagAt, keyStop, headOf, pastPlain, pastNested, Nested, elementOf, andThen, elements, documentFits, documentOf, answer, lengthFits, payloadOf}
 use Rattle.payload.specs.declared.Tags.{Tags}
 use Rattle.payload.specs.declared.Tag.{Tag}
 use Rattle.payload.specs.declared.Tag.the-variants.{Unknown, ProtocolVersion, HashId, Mtu, RejectedParams}
@@ -27,6 +27,7 @@ use Rattle.payload.specs.declared.Walk.{Walk}
 use Rattle.payload.specs.declared.Walk.the-variants.{Past, Fault}
 use Rattle.payload.specs.declared.Payload.{Payload}
 use Rattle.payload.specs.declared.Payload.the-variants.{Accepted, Refused}
+use Rattle.payload.proofs.Within.{head-by, element-by, elements-by, string-fits, document-fits}
 
 -- a walk that leaves the tags as they were
 abbrev pub Keeps : Tags → Walk → Type 0
@@ -42,11 +43,7 @@ NamesNone (Value kind tag v) = tag ≡ Unknown
 NamesNone (Bad k) = Unit {0}
 
 head-names-none : (s : List ℕ) (at end : ℕ) (t : Tags) → NamesNone (headOf false s at end t)
-unfolding headOf
-head-names-none s at end t =
-    unless-elim NamesNone (readType (getD s at 0)) _ _ (λ e. tt)
-    (λ e. unless-elim NamesNone (ltb (keyStop s at end) end) _ _ (λ e. tt)
-    (λ e. either NamesNone (clashes t Unknown (getD s at 0)) (Bad 34) (Value (getD s at 0) Unknown (keyStop s at end + 1)) (λ e. tt) (λ e. refl)))
+head-names-none s at end t = head-by NamesNone false s at end t tt tt tt (λ l c. refl)
 
 plain-keeps : (s : List ℕ) (w : Skip) (t : Tags) (tag : Tag) (v : ℕ) → tag ≡ Unknown → Keeps t (pastPlain s w t tag v)
 plain-keeps s (To n) t tag v e = rw e
@@ -56,33 +53,20 @@ nested-keeps : (s : List ℕ) (w : Walk) (t : Tags) (tag : Tag) (v : ℕ) → ta
 nested-keeps s (Past n u) t tag v e h = rw e h
 nested-keeps s (Fault k) t tag v e h = tt
 
-still-keeps : (t u : Tags) (w : Walk) → u ≡ t → Keeps u w → Keeps t w
-still-keeps t u w e h = subst (λ (x : Tags). Keeps x w) e h
-
 then-keeps : (t : Tags) (w : Walk) (rest : ℕ → Tags → Walk) → Keeps t w → ((n : ℕ) (u : Tags) → Keeps u (rest n u)) → Keeps t (andThen w rest)
-then-keeps t (Past n u) rest h r = still-keeps t u (rest n u) h (r n u)
+then-keeps t (Past n u) rest h r = subst (λ (x : Tags). Keeps x (rest n u)) h (r n u)
 then-keeps t (Fault k) rest h r = tt
 
 module _ (nested : Nested) (keeps : NestedKeeps nested) (s : List ℕ) where
-  value-keeps : (end : ℕ) (t : Tags) (x : Head) → NamesNone x → Keeps t (valueOf nested s end t x)
-  value-keeps end t (Bad k) h = tt
-  value-keeps end t (Value kind tag v) h =
-      either (Keeps t) (nests kind) _ _
-      (λ e. nested-keeps s (nested v end t) t tag v h (keeps v end t))
-      (λ e. plain-keeps s (plainOf s v end kind) t tag v h)
-
   element-keeps : (at end : ℕ) (t : Tags) → Keeps t (elementOf nested false s at end t)
-  unfolding elementOf
-  element-keeps at end t = value-keeps end t (headOf false s at end t) (head-names-none s at end t)
+  element-keeps at end t =
+      element-by (Keeps t) NamesNone nested false s at end t (head-names-none s at end t) (λ k h. tt)
+      (λ kind tag v h e. nested-keeps s (nested v end t) t tag v h (keeps v end t))
+      (λ kind tag v h e. plain-keeps s (plainOf s v end kind) t tag v h)
 
   elements-keep : (bound at end : ℕ) (t : Tags) → Keeps t (elements bound nested false s at end t)
-  unfolding elements
-  elements-keep zero at end t = tt
-  elements-keep (suc bound) at end t =
-      unless-elim (Keeps t) (ltb at end) (Fault 32) _ (λ e. tt)
-      (λ e. either (Keeps t) (eqb (getD s at 0) 0) _ _
-      (λ z. unless-elim (Keeps t) (eqb (at + 1) end) (Fault 32) (Past end t) (λ e. tt) (λ e. refl))
-      (λ z. then-keeps t (elementOf nested false s at end t) _ (element-keeps at end t) (λ n u. elements-keep bound n end u)))
+  elements-keep bound at end t =
+      elements-by Keeps nested false s end (λ u. tt) (λ u. refl) (λ i u rest h. then-keeps u (elementOf nested false s i end u) rest (element-keeps i end u) h) bound at t
 
 -- a document below the top level leaves the tags as they were
 pub document-keeps : (levels : ℕ) (s : List ℕ) → NestedKeeps (documentOf levels false s)
@@ -109,13 +93,8 @@ HeadFits t (Value kind tag v) = (found t tag ≡ false) × (typed tag kind ≡ t
 HeadFits t (Bad k) = Unit {0}
 
 head-fits : (top : Bool) (s : List ℕ) (at end : ℕ) (t : Tags) → HeadFits t (headOf top s at end t)
-unfolding headOf
 head-fits top s at end t =
-    unless-elim (HeadFits t) (readType (getD s at 0)) _ _ (λ e. tt)
-    (λ e. unless-elim (HeadFits t) (ltb (keyStop s at end) end) _ _ (λ e. tt)
-    (λ e. either (HeadFits t) (clashes t (tagAt top s (at + 1) (keyStop s at end)) (getD s at 0)) (Bad 34) _
-    (λ e. tt)
-    (λ e. or-neither (found t (tagAt top s (at + 1) (keyStop s at end))) (typed (tagAt top s (at + 1) (keyStop s at end)) (getD s at 0)) e)))
+    head-by (HeadFits t) top s at end t tt tt tt (λ l c. or-neither (found t (tagAt top s (at + 1) (keyStop s at end))) (typed (tagAt top s (at + 1) (keyStop s at end)) (getD s at 0)) c)
 
 abbrev Holds : (Tags → Type 0) → Walk → Type 0
 Holds P (Past n t) = P t
@@ -138,34 +117,20 @@ module _ (s : List ℕ) (P : Tags → Type 0) (step : (end : ℕ) (t : Tags) (ki
   nested-holds : (end : ℕ) (t : Tags) (kind : ℕ) (tag : Tag) (v : ℕ) → found t tag ≡ false → typed tag kind ≡ true → end ≤ length s → nests kind ≡ true → P t
       → (w : Walk) → Keeps t w → Holds P (pastNested s w tag v)
   nested-holds end t kind tag v f g l y p (Past n u) e =
-      subst (λ (x : Tags). P (withTag s x tag v)) (sym e)
-      (step end t kind tag v (record { fresh = f; right = g; inside = l; value = λ z. (0, absurd (both (nests kind) y z)) }) p)
-    where
-      both : (b : Bool) → b ≡ true → b ≡ false → ⊥
-      both true y z = let o : _≡_ {A = ℕ} 0 1 = cc in omega arith
-      both false y z = let o : _≡_ {A = ℕ} 0 1 = cc in omega arith
+      let never : nests kind ≡ false → _≡_ {A = ℕ} 0 1 = λ z. cc in
+      rw e (step end t kind tag v (record { fresh = f; right = g; inside = l; value = λ z. let o = never z in absurd (omega arith) }) p)
   nested-holds end t kind tag v f g l y p (Fault k) e = tt
 
   module _ (nested : Nested) (keeps : NestedKeeps nested) where
-    value-holds : (end : ℕ) (t : Tags) → end ≤ length s → P t → (x : Head) → HeadFits t x → Holds P (valueOf nested s end t x)
-    value-holds end t l p (Bad k) h = tt
-    value-holds end t l p (Value kind tag v) h =
-        either (Holds P) (nests kind) _ _
-        (λ y. nested-holds end t kind tag v (h .0) (h .1) l y p (nested v end t) (keeps v end t))
-        (λ y. plain-holds end t kind tag v (h .0) (h .1) l p (plainOf s v end kind) refl)
-
     element-holds : (at end : ℕ) (t : Tags) → end ≤ length s → P t → Holds P (elementOf nested true s at end t)
-    unfolding elementOf
-    element-holds at end t l p = value-holds end t l p (headOf true s at end t) (head-fits true s at end t)
+    element-holds at end t l p =
+        element-by (Holds P) (HeadFits t) nested true s at end t (head-fits true s at end t) (λ k h. tt)
+        (λ kind tag v h y. nested-holds end t kind tag v (h .0) (h .1) l y p (nested v end t) (keeps v end t))
+        (λ kind tag v h y. plain-holds end t kind tag v (h .0) (h .1) l p (plainOf s v end kind) refl)
 
     elements-hold : (bound at end : ℕ) (t : Tags) → end ≤ length s → P t → Holds P (elements bound nested true s at end t)
-    unfolding elements
-    elements-hold zero at end t l p = tt
-    elements-hold (suc bound) at end t l p =
-        unless-elim (Holds P) (ltb at end) (Fault 32) _ (λ e. tt)
-        (λ e. either (Holds P) (eqb (getD s at 0) 0) _ _
-        (λ z. unless-elim (Holds P) (eqb (at + 1) end) (Fault 32) (Past end t) (λ e. tt) (λ e. p))
-        (λ z. then-holds P (elementOf nested true s at end t) _ (element-holds at end t l p) (λ n u q. elements-hold bound n end u l q)))
+    elements-hold bound at end t l =
+        elements-by (λ (u : Tags) (w : Walk). P u → Holds P w) nested true s end (λ u p. tt) (λ u p. p) (λ i u rest h p. then-holds P (elementOf nested true s i end u) rest (element-holds i end u l p) h) bound at t
 
   document-holds : (levels at end : ℕ) (t : Tags) → at ≤ end → end ≤ length s → P t → Holds P (documentOf levels true s at end t)
   unfolding documentOf
@@ -173,10 +138,7 @@ module _ (s : List ℕ) (P : Tags → Type 0) (step : (end : ℕ) (t : Tags) (ki
   document-holds (suc levels) at end t h l p =
       let n = valueLe (part s at 4) in
       unless-elim (Holds P) (documentFits at end n) (Fault 32) _ (λ e. tt)
-      (λ e.
-      let a = and-both (leb 4 (end - at)) _ e in
-      let b = and-both (leb 5 n) _ (a .1) in
-      elements-hold (documentOf levels false s) (document-keeps levels s) n (at + 4) (at + n) t (omega (arith, leb-true n (end - at) (b .1))) p)
+      (λ e. elements-hold (documentOf levels false s) (document-keeps levels s) n (at + 4) (at + n) t (omega (arith, document-fits at end n e)) p)
 
   answer-holds : (w : Walk) → Holds P w → AcceptedHolds P (answer w)
   answer-holds (Past n t) h = h
@@ -199,13 +161,7 @@ pub string-says : (s : List ℕ) (v end : ℕ) → StringSays s v end (stringOf 
 unfolding stringOf
 string-says s v end =
     let n = valueLe (part s v 4) in
-    either (StringSays s v end) (stringFits s v end n) (To (v + 4 + n)) Wrong
-    (λ e.
-    let a = and-both (leb 4 (end - v)) _ e in
-    let b = and-both (leb 1 n) _ (a .1) in
-    let c = and-both (leb n (end - v - 4)) _ (b .1) in
-    (leb-true 1 n (b .0), omega (arith, leb-true 4 (end - v) (a .0), leb-true n (end - v - 4) (c .0)), eqb-true (getD s (v + 3 + n) 0) 0 (c .1)))
-    (λ e. tt)
+    either (StringSays s v end) (stringFits s v end n) (To (v + 4 + n)) Wrong (λ e. let f = string-fits s v end n e in (f .1, omega arith, f .3)) (λ e. tt)
 
 -- a version string that was found lies inside the slice, and a 0 byte follows it
 abbrev pub VersionInside : List ℕ → Tags → Type 0
@@ -232,10 +188,7 @@ version-step s end t kind ProtocolVersion v x p = λ y.
     (omega (arith, x .inside), rw z (f .2))
 
 pub version-inside : (s : List ℕ) → AcceptedHolds (VersionInside s) (payloadOf s)
-version-inside s = tags-hold s (VersionInside s) (version-step s) (λ y. absurd (never y))
-  where
-    never : false ≡ true → ⊥
-    never y = let o : _≡_ {A = ℕ} 0 1 = cc in omega arith
+version-inside s = tags-hold s (VersionInside s) (version-step s) (λ y. let o : _≡_ {A = ℕ} 0 1 = cc in absurd (omega arith))
 
 -- numbers of four and of eight bytes
 pub value-most : (w : ℕ) (bs : List ℕ) → AreBytes bs → valueLe (take w bs) < 256 ^ w

@@ -1,7 +1,7 @@
 -- Version strings there and back: what is written of a version with major 1 to 255 and the others 0 to 255 is read as that version, and every text
 -- that is read as a version is what is written of it. By the digits of each part and the first dot of each text. Assumes nothing.
 use Prim.Native.Nat.{ℕ, suc, _+_, _-_, _*_, _/_, _%_, _^_, _≤_, _<_, min}
-use mathlib.Core.Path.{_≡_, refl, ap, _∙_, sym, subst}
+use mathlib.Core.Path.{_≡_, refl, ap, _∙_, sym}
 use mathlib.Core.Bool.{Bool, true, false, not, _&&_}
 use mathlib.Core.List.{List, [], _∷_, _++_}
 use mathlib.Core.Logic.{_⊎_, inl, inr, ⊎-elim}
@@ -9,7 +9,7 @@ use native.Mathlib.Omega.{arith}
 use lib.Dec.{leb, ltb, eqb}
 use lib.ListN.{length, getD}
 use lib.Seq.{take-at, drop-append-add}
-use borrow.Author.Tests.{le-leb, leb-true, eqb-true, eqb-false, ne-eqb, not-true}
+use borrow.Author.Tests.{le-leb, eqb-true, eqb-false, ne-eqb}
 use Rattle.numbers.proofs.Choices.{split}
 use Rattle.bytes.specs.Bytes.{indexOf, indexAfter}
 use Rattle.lines.specs.Text.{every}
@@ -18,19 +18,23 @@ use Rattle.lines.proofs.Turns.{both}
 use Rattle.lines.proofs.Characters.{says}
 use Rattle.lines.proofs.Digits.{decimal-one, decimal-step, width-one, value-most}
 use Rattle.lines.proofs.Laws.{decimal-digits, decimal-first, number-decimal}
-use Rattle.payload.specs.Version.{version, beforeDot, afterDot, spareZero, partValue, partOf, versionFrom, versionOf, versionText}
+use Rattle.payload.specs.Version.{version, beforeDot, afterDot, spareZero, partOf, versionFrom, versionOf, versionText}
 use Rattle.payload.specs.declared.version.Version.{Version}
 use Rattle.payload.specs.declared.version.VersionText.the-variants.{Good, Bad}
+use Rattle.payload.proofs.Versions.{InRange, in-range}
+
+-- the first of a text of digits, and the others
+first-digit : (b : ℕ) (t : List ℕ) → every isDecimal (b ∷ t) ≡ true → (48 ≤ b) × (b ≤ 57) × (every isDecimal t ≡ true)
+first-digit b t e = let z = both (isDecimal b) (every isDecimal t) e in let y = says 48 57 b (z .0) in (y .0, y .1, z .1)
 
 -- a text of digits, then a dot: the dot is the first
 dot-past : (t r : List ℕ) → every isDecimal t ≡ true → indexOf 46 (t ++ 46 ∷ r) ≡ length t
 unfolding indexOf indexAfter
 dot-past [] r e = refl
 dot-past (b ∷ t) r e =
-    let z = both (isDecimal b) (every isDecimal t) e in
-    let y = says 48 57 b (z .0) in
+    let z = first-digit b t e in
     let n : b ≡ 46 → ⊥ = λ d. omega arith in
-    rw (ne-eqb b 46 n, dot-past t r (z .1))
+    rw (ne-eqb b 46 n, dot-past t r (z .2))
 
 module _ (t r : List ℕ) (e : every isDecimal t ≡ true) where
   before-dot : beforeDot (t ++ 46 ∷ r) ≡ t
@@ -80,76 +84,49 @@ written-read v l a b c =
       le-leb (v .patch) 255 (omega arith),
     )
 
--- a number's last digit and the rest
-ten : (m x y : ℕ) → y < 10 → x * 10 + y ≡ m → (m / 10 ≡ x) × (m % 10 ≡ y)
-ten m x y h e = (omega arith, omega arith)
-
-up : (d a : ℕ) → d ≡ a - 48 → 48 ≤ a → 48 + d ≡ a
-up d a e h = omega arith
-
 -- one to three digits with no spare zero are the text of their value
 digits-text : (t : List ℕ) (n : ℕ) → 0 < length t → every isDecimal t ≡ true → spareZero t ≡ false → valueFrom 0 t ≡ n → n < 256 → decimalOf n ≡ t
 unfolding valueFrom
 digits-text [] n l d s e h = absurd (omega arith)
 digits-text (a ∷ []) n l d s e h =
-    let x = says 48 57 a (both (isDecimal a) true d .0) in
+    let x = first-digit a [] d in
     let z : 48 + n ≡ a = omega arith in
     decimal-one n (omega arith) ∙ rw z
 digits-text (a ∷ b ∷ []) n l d s e h =
-    let x = both (isDecimal a) (isDecimal b && true) d in
-    let y = both (isDecimal b) true (x .1) in
-    let a' = says 48 57 a (x .0) in
-    let b' = says 48 57 b (y .0) in
-    let a″ = eqb-false a 48 s in
-    let i = ten n (a - 48) (b - 48) (omega (arith, b')) (omega (arith, e)) in
-    let p : 48 + n / 10 ≡ a = up (n / 10) a (i .0) (a' .0) in
-    let q : 48 + n % 10 ≡ b = up (n % 10) b (i .1) (b' .0) in
+    let x = first-digit a (b ∷ []) d in
+    let y = first-digit b [] (x .2) in
+    let a' = eqb-false a 48 s in
+    let p : 48 + n / 10 ≡ a = omega arith in
+    let q : 48 + n % 10 ≡ b = omega arith in
     decimal-step n (omega arith) ∙ rw (decimal-one (n / 10) (omega arith), p, q)
 digits-text (a ∷ b ∷ c ∷ []) n l d s e h =
-    let x = both (isDecimal a) (isDecimal b && (isDecimal c && true)) d in
-    let y = both (isDecimal b) (isDecimal c && true) (x .1) in
-    let z = both (isDecimal c) true (y .1) in
-    let a' = says 48 57 a (x .0) in
-    let b' = says 48 57 b (y .0) in
-    let c' = says 48 57 c (z .0) in
-    let a″ = eqb-false a 48 s in
-    let i = ten n ((a - 48) * 10 + (b - 48)) (c - 48) (omega (arith, c')) (omega (arith, e)) in
-    let j = ten (n / 10) (a - 48) (b - 48) (omega (arith, b')) (sym (i .0)) in
-    let o : 48 + n / 10 / 10 ≡ a = up (n / 10 / 10) a (j .0) (a' .0) in
-    let p : 48 + n / 10 % 10 ≡ b = up (n / 10 % 10) b (j .1) (b' .0) in
-    let q : 48 + n % 10 ≡ c = up (n % 10) c (i .1) (c' .0) in
+    let x = first-digit a (b ∷ c ∷ []) d in
+    let y = first-digit b (c ∷ []) (x .2) in
+    let z = first-digit c [] (y .2) in
+    let a' = eqb-false a 48 s in
+    let o : 48 + n / 10 / 10 ≡ a = omega arith in
+    let p : 48 + n / 10 % 10 ≡ b = omega arith in
+    let q : 48 + n % 10 ≡ c = omega arith in
     decimal-step n (omega arith) ∙ rw (decimal-step (n / 10) (omega arith), decimal-one (n / 10 / 10) (omega arith), o, p, q)
 digits-text (a ∷ b ∷ c ∷ d' ∷ t) n l d s e h =
-    let x = both (isDecimal a) (isDecimal b && (isDecimal c && (isDecimal d' && every isDecimal t))) d in
-    let a' = says 48 57 a (x .0) in
+    let x = first-digit a (b ∷ c ∷ d' ∷ t) d in
     let s' : eqb a 48 ≡ false = rw (le-leb 2 (length (a ∷ b ∷ c ∷ d' ∷ t)) (omega arith)) at s in
-    let a″ = eqb-false a 48 s' in
+    let a' = eqb-false a 48 s' in
     absurd (omega (arith, value-most ((((0 * 10 + (a - 48)) * 10 + (b - 48)) * 10 + (c - 48)) * 10 + (d' - 48)) t))
 
 -- a part that says a number from 0 to 255 is its text
-module _ (t : List ℕ) (n : ℕ) (h : n < 256) where
-  value-text : spareZero t ≡ false → 0 < length t → every isDecimal t ≡ true → partValue (valueOf t) ≡ n → decimalOf n ≡ t
-  unfolding valueOf
-  value-text s l d e =
-      split (ltb (valueFrom 0 t) (2 ^ 64))
-      (λ k. let f : min (valueFrom 0 t) 256 ≡ n = rw k at e in digits-text t n l d s (omega arith) h)
-      (λ k. let f : 256 ≡ n = rw k at e in absurd (omega arith))
-
-  number-text : spareZero t ≡ false → partValue (numberOf t) ≡ n → decimalOf n ≡ t
-  unfolding numberOf
-  number-text s e =
-      split (eqb (length t) 0)
-      (λ k. let f : 256 ≡ n = rw k at e in absurd (omega arith)) λ k.
-      split (every isDecimal t)
-      (λ d. value-text s (let z = eqb-false (length t) 0 k in omega arith) d (rw d at (rw k at e)))
-      (λ d. let f : 256 ≡ n = rw d at (rw k at e) in absurd (omega arith))
-
-  part-text : partOf t ≡ n → decimalOf n ≡ t
-  unfolding partOf
-  part-text e =
-      split (spareZero t)
-      (λ s. let f : 256 ≡ n = rw s at e in absurd (omega arith))
-      (λ s. number-text s (rw s at e))
+part-text : (t : List ℕ) (n : ℕ) → n < 256 → partOf t ≡ n → decimalOf n ≡ t
+unfolding partOf numberOf valueOf
+part-text t n h e =
+    split (spareZero t) (λ s. none (rw s at e)) λ s.
+    split (eqb (length t) 0) (λ k. none (rw (s, k) at e)) λ k.
+    split (every isDecimal t) (λ d. split (ltb (valueFrom 0 t) (2 ^ 64))
+    (λ m. let f : min (valueFrom 0 t) 256 ≡ n = rw (s, k, d, m) at e in digits-text t n (let z = eqb-false (length t) 0 k in omega arith) d s (omega arith) h)
+    (λ m. none (rw (s, k, d, m) at e)))
+    (λ d. none (rw (s, k, d) at e))
+  where
+    none : 256 ≡ n → decimalOf n ≡ t
+    none f = absurd (omega arith)
 
 -- a text is what stands before its first dot, the dot and what follows it; or there is no dot and nothing follows
 dots : (t : List ℕ) → (afterDot t ≡ []) ⊎ (beforeDot t ++ 46 ∷ afterDot t ≡ t)
@@ -172,26 +149,11 @@ unfolding indexOf
 nothing-before t e = nothing (beforeDot t) (rw e refl)
 
 -- the three parts of a version that is good
-pub record InRange (a b c : ℕ) : Type 0 where
-  pub one : 1 ≤ a
-  pub major : a < 256
-  pub minor : b < 256
-  pub patch : c < 256
-
 good-parts : (a b c : ℕ) (v : Version) → versionFrom a b c ≡ Good v → InRange a b c × (version a b c ≡ v)
 unfolding versionFrom
 good-parts a b c v e =
     split (not (eqb a 0) && (leb a 255 && (leb b 255 && leb c 255)))
-    (λ t.
-    let x = both (not (eqb a 0)) _ t in
-    let y = both (leb a 255) _ (x .1) in
-    let z = both (leb b 255) _ (y .1) in
-    let n = eqb-false a 0 (not-true (eqb a 0) (x .0)) in
-    let p = leb-true a 255 (y .0) in
-    let q = leb-true b 255 (z .0) in
-    let r = leb-true c 255 (z .1) in
-    let g : Good (version a b c) ≡ Good v = rw t at e in
-    (record { one = omega arith; major = omega arith; minor = omega arith; patch = omega arith }, cc))
+    (λ t. let g : Good (version a b c) ≡ Good v = rw t at e in (in-range a b c t, cc))
     (λ t. let g : Bad ≡ Good v = rw t at e in absurd (let z : _≡_ {A = ℕ} 0 1 = cc in omega arith))
 
 module _ (t : List ℕ) (v : Version) (e : versionOf t ≡ Good v) where
@@ -207,10 +169,6 @@ module _ (t : List ℕ) (v : Version) (e : versionOf t ≡ Good v) where
   parts : InRange a b c × (version a b c ≡ v)
   unfolding versionOf
   parts = good-parts a b c v e
-
-  -- a good version's numbers are in range
-  pub read-range : InRange (v .major) (v .minor) (v .patch)
-  read-range = subst (λ (w : Version). InRange (w .major) (w .minor) (w .patch)) (parts .1) (parts .0)
 
   text-parts : versionText (version a b c) ≡ t
   unfolding versionText

@@ -1,11 +1,11 @@
--- The order of versions is total, and the lesser of two is one of them and at most both. By one law for each number compared, used for
--- major and for minor. Assumes nothing.
+-- The order of versions is total, code that compares the first numbers that differ decides it, and the lesser of two is one of them and at most
+-- both. By one law for each number compared, used for major and for minor. Assumes nothing.
 use Prim.Native.Nat.{ℕ, _<_}
 use mathlib.Core.Path.{_≡_, refl, _∙_, sym}
-use mathlib.Core.Bool.{Bool, true, false}
+use mathlib.Core.Bool.{Bool, true, false, or-false}
 use mathlib.Core.Logic.{_⊎_, inl, inr}
 use native.Mathlib.Omega.{arith}
-use lib.Dec.{ltb, eqb}
+use lib.Dec.{leb, ltb, eqb}
 use borrow.Author.Tests.{lt-ltb, le-ltb, ltb-true, ltb-false, eq-eqb, ne-eqb, eqb-true, eqb-false, le-leb, leb-true, leb-false}
 use Rattle.numbers.proofs.Choices.{split}
 use Rattle.payload.specs.Version.{version, belowOr, atMost, lesserOf}
@@ -31,6 +31,23 @@ module _ (x y : ℕ) where
       let n : x ≡ y → ⊥ = λ e. omega arith in
       rw (le-ltb x y (omega arith), ne-eqb x y n)
 
+  differs : (r : Bool) → (x ≡ y → ⊥) → ltb x y ≡ belowOr x y r
+  differs r h = rw (ne-eqb x y h) (sym (or-false _))
+
+-- so code compares two versions by the first numbers that differ
+module _ (a b : Version) where
+  pub by-major : (a .major ≡ b .major → ⊥) → ltb (a .major) (b .major) ≡ atMost a b
+  unfolding atMost
+  by-major p = differs (a .major) (b .major) _ p
+
+  pub by-minor : a .major ≡ b .major → (a .minor ≡ b .minor → ⊥) → ltb (a .minor) (b .minor) ≡ atMost a b
+  unfolding atMost
+  by-minor p q = differs (a .minor) (b .minor) _ q ∙ sym (same (a .major) (b .major) _ p)
+
+  pub by-patch : a .major ≡ b .major → a .minor ≡ b .minor → leb (a .patch) (b .patch) ≡ atMost a b
+  unfolding atMost
+  by-patch p q = sym (same (a .major) (b .major) _ p ∙ same (a .minor) (b .minor) _ q)
+
 never : {P : Type 0} → true ≡ false → P
 never e = absurd (let z : _≡_ {A = ℕ} 0 1 = cc in omega arith)
 
@@ -49,18 +66,7 @@ module _ (x y : ℕ) (r s : Bool) where
       (λ h. (h, sym (same x y r h) ∙ e, sym (same y x s (sym h)) ∙ f))
       (λ h. never (sym e ∙ above x y r h))
 
-  number-on : (z : ℕ) (t : Bool) → (r ≡ true → s ≡ true → t ≡ true) → belowOr x y r ≡ true → belowOr y z s ≡ true → belowOr x z t ≡ true
-  number-on z t f d e =
-      order x y
-      (λ h. order y z (λ k. below x z t (omega arith)) (λ k. below x z t (omega arith)) (λ k. never (sym e ∙ above y z s k)))
-      (λ h.
-      order y z
-      (λ k. below x z t (omega arith))
-      (λ k. same x z t (h ∙ k) ∙ f (sym (same x y r h) ∙ d) (sym (same y z s k) ∙ e))
-      (λ k. never (sym e ∙ above y z s k)))
-      (λ h. never (sym d ∙ above x y r h))
-
--- the order of versions: of any two one is at most the other; both only if they are the same; and it goes on
+-- the order of versions: of any two one is at most the other; both only if they are the same
 pub at-most-self : (a : Version) → atMost a a ≡ true
 unfolding atMost
 at-most-self a = same (a .major) (a .major) _ refl ∙ same (a .minor) (a .minor) _ refl ∙ le-leb (a .patch) (a .patch) (omega arith)
@@ -81,13 +87,6 @@ at-most-both a b e f =
   where
     equal : a .major ≡ b .major → a .minor ≡ b .minor → a .patch ≡ b .patch → version (a .major) (a .minor) (a .patch) ≡ version (b .major) (b .minor) (b .patch)
     equal p q r = rw (p, q, r)
-
-pub at-most-on : (a b c : Version) → atMost a b ≡ true → atMost b c ≡ true → atMost a c ≡ true
-unfolding atMost
-at-most-on a b c =
-    number-on (a .major) (b .major) _ _ (c .major) _
-    (number-on (a .minor) (b .minor) _ _ (c .minor) _
-    (λ e f. le-leb (a .patch) (c .patch) (omega (arith, leb-true (a .patch) (b .patch) e, leb-true (b .patch) (c .patch) f))))
 
 -- the lesser of two versions
 module _ (a b : Version) where

@@ -1,13 +1,14 @@
--- What the code of the version strings asks: the text around a dot, how many digits a part has, the string put piece by piece, which parts make
--- a version, and which of two versions comes first.
+-- What the code of the version strings asks: the text around a dot, how many digits a part has and where they stand, how long the string is, and
+-- which parts make a version.
 -- By the laws of take and drop and the equations of decimal text. Assumes nothing.
 use Prim.Native.Nat.{ℕ, _+_, _-_, _/_, _≤_, _<_}
 use mathlib.Core.Path.{_≡_, refl, ap, _∙_, sym}
-use mathlib.Core.Bool.{not, _&&_, or-false}
-use mathlib.Core.List.{List, [], _∷_, _++_, append-assoc}
+use mathlib.Core.Bool.{true, not, _&&_}
+use mathlib.Core.List.{List}
 use native.Mathlib.Omega.{arith}
 use lib.Dec.{eqb, leb, ltb}
-use borrow.Author.Tests.{eq-eqb, ne-eqb, le-leb, le-ltb, ltb-true, ltb-false, leb-true, eqb-false, not-true}
+use borrow.Author.Tests.{ne-eqb, le-leb, le-ltb, ltb-true, ltb-false, leb-true, eqb-false, not-true}
+use borrow.Rule.Slice.PartMut.{putMid}
 use lib.ListN.{length, take, drop, length-append, length-drop, drop-of-length-le}
 use lib.Seq.{length-take-le, take-all, take-length}
 use Rattle.numbers.proofs.Choices.{and-both, split, unless-elim}
@@ -19,11 +20,11 @@ use Rattle.lines.specs.declared.Encoded.the-variants.{Chars}
 use Rattle.lines.proofs.Digits.{width-one, width-step}
 use Rattle.numbers.specs.Bytes.{part, laid}
 use Rattle.payload.specs.Append.{Appended}
-use Rattle.payload.specs.Version.{version, beforeDot, afterDot, versionFrom, versionText, atMost}
+use Rattle.payload.specs.Version.{version, beforeDot, afterDot, versionFrom, versionText}
 use Rattle.payload.specs.declared.version.Version.{Version}
 use Rattle.payload.specs.declared.version.VersionText.{VersionText}
 use Rattle.payload.specs.declared.version.VersionText.the-variants.{Good, Bad}
-use Rattle.payload.proofs.Appends.{more, renamed, filled}
+use Rattle.payload.proofs.Appends.{part-put}
 
 -- the place of the first dot, found in the whole text
 module _ (text : List ℕ) (r : ℕ) (e : r ≡ 0 + indexOf 46 (slice 0 (length text) text)) where
@@ -67,16 +68,15 @@ module _ (n : ℕ) where
       split (ltb n 100) (λ f. omega (arith, digits-two (ltb-false n 10 e) (ltb-true n 100 f))) λ f.
       omega (arith, digits-three (ltb-false n 100 f) h)
 
--- decimal text that fills the part that is lent for it
+-- decimal text in the part that is lent for it
 pub digits-put : (n at w : ℕ) (o : List ℕ) {a : Encoded} {r : List ℕ} → w ≡ length (decimalOf n) → at + length (decimalOf n) ≤ length o
-    → encoded a r ≡ writtenOf (decimalOf n) (part o at (at + w - at)) → r ≡ decimalOf n
+    → encoded a r ≡ writtenOf (decimalOf n) (part o at (at + w - at)) → Appended at (decimalOf n) o (at + w) (putMid at (at + w - at) o r)
 unfolding writtenOf
 digits-put n at w o {a} {r} e room f =
     let d = decimalOf n in
-    let z : at + w - at ≡ w = omega arith in
-    let l : length (part o at w) ≡ w = length-take-le w (drop at o) (omega (arith, length-drop at o)) in
-    let g : encoded a r ≡ encoded (Chars (length d)) (laid d (part o at w)) = f ∙ rw (z, l, le-ltb w (length d) (omega arith)) in
-    ap (λ w. w .buffer) g ∙ filled d o at w (sym e)
+    let l : length (part o at (at + w - at)) ≡ w = length-take-le (at + w - at) (drop at o) (omega (arith, length-drop at o)) ∙ omega arith in
+    let g : encoded a r ≡ encoded (Chars (length d)) (laid d (part o at (at + w - at))) = f ∙ rw (l, le-ltb w (length d) (omega arith)) in
+    part-put d at (at + w) o (omega arith) (ap (λ w. w .buffer) g)
 
 -- the string of a version: three parts and two dots
 module _ (v : Version) where
@@ -87,52 +87,33 @@ module _ (v : Version) where
   pub version-most : v .major < 256 → v .minor < 256 → v .patch < 256 → length (versionText v) ≤ 11
   version-most a b c = omega (arith, length-version, digits-most (v .major) a, digits-most (v .minor) b, digits-most (v .patch) c)
 
-  pub version-put : {at n₁ n₂ n₃ n₄ m : ℕ} {o p₁ p₂ p₃ p₄ q : List ℕ} → at + length (versionText v) ≤ length o
-      → Appended at (decimalOf (v .major)) o n₁ p₁ → Appended n₁ (46 ∷ []) p₁ n₂ p₂ → Appended n₂ (decimalOf (v .minor)) p₂ n₃ p₃
-      → Appended n₃ (46 ∷ []) p₃ n₄ p₄ → Appended n₄ (decimalOf (v .patch)) p₄ m q → Appended at (versionText v) o m q
-  unfolding versionText
-  version-put room e₁ e₂ e₃ e₄ e₅ =
-      let a = decimalOf (v .major) in
-      let b = decimalOf (v .minor) in
-      let c = decimalOf (v .patch) in
-      renamed (simp append-assoc)
-      (more (a ++ (46 ∷ []) ++ b ++ (46 ∷ [])) c (simp length-append (omega (arith, length-version)))
-      (more (a ++ (46 ∷ []) ++ b) (46 ∷ []) (simp length-append (omega (arith, length-version)))
-      (more (a ++ (46 ∷ [])) b (simp length-append (omega (arith, length-version)))
-      (more a (46 ∷ []) (omega (arith, length-version)) e₁ e₂) e₃) e₄) e₅)
-
 -- three parts: good where all are in range, bad where that is refuted
-module _ (a b c : ℕ) where
-  pub parts-good : 1 ≤ a → a ≤ 255 → b ≤ 255 → c ≤ 255 → Good (version a b c) ≡ versionFrom a b c
-  unfolding versionFrom
-  parts-good p q r s =
-      let n : a ≡ 0 → ⊥ = λ z. omega arith in
-      rw (ne-eqb a 0 n, le-leb a 255 q, le-leb b 255 r, le-leb c 255 s)
+pub record InRange (a b c : ℕ) : Type 0 where
+  pub one : 1 ≤ a
+  pub major : a < 256
+  pub minor : b < 256
+  pub patch : c < 256
 
-  pub parts-bad : (1 ≤ a → a ≤ 255 → b ≤ 255 → c ≤ 255 → ⊥) → Bad ≡ versionFrom a b c
+module _ (a b c : ℕ) where
+  pub in-range : not (eqb a 0) && (leb a 255 && (leb b 255 && leb c 255)) ≡ true → InRange a b c
+  in-range e =
+      let p = and-both (not (eqb a 0)) _ e in
+      let q = and-both (leb a 255) _ (p .1) in
+      let r = and-both (leb b 255) _ (q .1) in
+      record {
+        one = let n = eqb-false a 0 (not-true (eqb a 0) (p .0)) in omega arith;
+        major = omega (arith, leb-true a 255 (q .0));
+        minor = omega (arith, leb-true b 255 (r .0));
+        patch = omega (arith, leb-true c 255 (r .1));
+      }
+
+  pub parts-good : InRange a b c → Good (version a b c) ≡ versionFrom a b c
+  unfolding versionFrom
+  parts-good r =
+      let n : a ≡ 0 → ⊥ = λ z. omega arith in
+      rw (ne-eqb a 0 n, le-leb a 255 (omega arith), le-leb b 255 (omega arith), le-leb c 255 (omega arith))
+
+  pub parts-bad : (InRange a b c → ⊥) → Bad ≡ versionFrom a b c
   unfolding versionFrom
   parts-bad out =
-      unless-elim (λ (t : VersionText). Bad ≡ t) (not (eqb a 0) && (leb a 255 && (leb b 255 && leb c 255))) Bad (Good (version a b c)) (λ e. refl) λ e.
-      let p = and-both (not (eqb a 0)) (leb a 255 && (leb b 255 && leb c 255)) e in
-      let q = and-both (leb a 255) (leb b 255 && leb c 255) (p .1) in
-      let r = and-both (leb b 255) (leb c 255) (q .1) in
-      absurd (out (omega (arith, eqb-false a 0 (not-true (eqb a 0) (p .0)))) (leb-true a 255 (q .0)) (leb-true b 255 (r .0)) (leb-true c 255 (r .1)))
-
--- two versions, by the first numbers that differ
-module _ (a b : Version) where
-  pub by-major : (a .major ≡ b .major → ⊥) → ltb (a .major) (b .major) ≡ atMost a b
-  unfolding atMost
-  by-major p = rw (ne-eqb (a .major) (b .major) p) (sym (or-false _))
-
-  pub by-minor : a .major ≡ b .major → (a .minor ≡ b .minor → ⊥) → ltb (a .minor) (b .minor) ≡ atMost a b
-  unfolding atMost
-  by-minor p q =
-      let l : b .major ≤ a .major = omega arith in
-      rw (le-ltb (a .major) (b .major) l, eq-eqb (a .major) (b .major) p, ne-eqb (a .minor) (b .minor) q) (sym (or-false _))
-
-  pub by-patch : a .major ≡ b .major → a .minor ≡ b .minor → leb (a .patch) (b .patch) ≡ atMost a b
-  unfolding atMost
-  by-patch p q =
-      let l : b .major ≤ a .major = omega arith in
-      let m : b .minor ≤ a .minor = omega arith in
-      rw (le-ltb (a .major) (b .major) l, eq-eqb (a .major) (b .major) p, le-ltb (a .minor) (b .minor) m, eq-eqb (a .minor) (b .minor) q)
+      unless-elim (λ (t : VersionText). Bad ≡ t) (not (eqb a 0) && (leb a 255 && (leb b 255 && leb c 255))) Bad (Good (version a b c)) (λ e. refl) (λ e. absurd (out (in-range e)))

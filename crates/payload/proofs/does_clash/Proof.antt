@@ -6,55 +6,14 @@ use borrow.Author.Needs.{needs}
 use Rattle.payload.proofs.does_clash.Statement.{statement}
 use Rattle.payload.proofs.does_clash.Tie as tie
 
-was-found-requires : tie.Need-was-found-requires
-was-found-requires c κs = search needs
-
-returns : tie.Need-returns
-returns c = rw (sym (c .before .was-found .ensures) ∙ (c .if1 .taken))
-
-enum-told : tie.Need-enum-told
-enum-told c = search needs
-
-enum-told-2 : tie.Need-enum-told-2
-enum-told-2 c = search needs
-
-enum-told-3 : tie.Need-enum-told-3
-enum-told-3 c = search needs
-
-enum-told-4 : tie.Need-enum-told-4
-enum-told-4 c = search needs
-
-enum-told-5 : tie.Need-enum-told-5
-enum-told-5 c = search needs
-
-returns-2 : tie.Need-returns-2
-returns-2 c = search needs
-
-returns-3 : tie.Need-returns-3
-returns-3 c = clash-unless (c .before .before .before .before .args .tags) (c .before .before .before .before .args .tag) _ (c .before .before .before .before .args .kind) (c .enum-told2 .given .1) (sym (c .before .before .before .was-found .ensures) ∙ (c .before .before .if1 .left))
-
-returns-4 : tie.Need-returns-4
-returns-4 c = clash-unless (c .before .before .before .before .args .tags) (c .before .before .before .before .args .tag) _ (c .before .before .before .before .args .kind) (c .enum-told3 .given .1) (sym (c .before .before .before .was-found .ensures) ∙ (c .before .before .if1 .left))
-
-returns-5 : tie.Need-returns-5
-returns-5 c = clash-unless (c .before .before .before .before .args .tags) (c .before .before .before .before .args .tag) _ (c .before .before .before .before .args .kind) (c .enum-told4 .given .1) (sym (c .before .before .before .was-found .ensures) ∙ (c .before .before .if1 .left))
-
-returns-6 : tie.Need-returns-6
-returns-6 c = clash-unless (c .before .before .before .before .args .tags) (c .before .before .before .before .args .tag) _ (c .before .before .before .before .args .kind) (c .enum-told5 .given .1) (sym (c .before .before .before .was-found .ensures) ∙ (c .before .before .if1 .left))
-
 pub does-clash-spec : {M : Type 1} → statement M
 does-clash-spec =
     tie.close
     (tie.spec
-    was-found-requires
-    returns
-    enum-told
-    enum-told-2
-    enum-told-3
-    enum-told-4
-    enum-told-5
-    returns-2
-    returns-3
-    returns-4
-    returns-5
-    returns-6)
+    (λ c κs. search needs) (λ c. rw (sym (c .before .was-found .ensures) ∙ (c .if1 .taken)))  -- was_found
+    (λ c. search needs) (λ c. search needs) (λ c. search needs) (λ c. search needs) (λ c. search needs)  -- tag
+    (λ c. search needs)
+    (λ c. clash-unless _ _ _ _ (c .enum-told2 .given .1) (sym (c .before .before .before .was-found .ensures) ∙ (c .before .before .if1 .left)))
+    (λ c. clash-unless _ _ _ _ (c .enum-told3 .given .1) (sym (c .before .before .before .was-found .ensures) ∙ (c .before .before .if1 .left)))
+    (λ c. clash-unless _ _ _ _ (c .enum-told4 .given .1) (sym (c .before .before .before .was-found .ensures) ∙ (c .before .before .if1 .left)))
+    (λ c. clash-unless _ _ _ _ (c .enum-told5 .given .1) (sym (c .before .before .before .was-found .ensures) ∙ (c .before .before .if1 .left))))

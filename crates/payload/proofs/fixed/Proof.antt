@@ -6,19 +6,6 @@ use borrow.Author.Needs.{needs}
 use Rattle.payload.proofs.fixed.Statement.{statement}
 use Rattle.payload.proofs.fixed.Tie as tie
 
-sub-if1 : tie.Need-sub-if1
-sub-if1 c = search needs
-
-add-t7 : tie.Need-add-t7
-add-t7 c = search needs
-
-returns : tie.Need-returns
-unfolding fixedOf
-returns c = rw (le-leb _ _ (c .if1 .taken))
-
-returns-2 : tie.Need-returns-2
-unfolding fixedOf
-returns-2 c = rw (lt-leb _ _ (c .if1 .left))
-
 pub fixed-spec : {M : Type 1} → statement M
-fixed-spec = tie.close (tie.spec sub-if1 add-t7 returns returns-2)
+unfolding fixedOf
+fixed-spec = tie.close (tie.spec (λ c. search needs) (λ c. search needs) (λ c. rw (le-leb _ _ (c .if1 .taken))) (λ c. rw (lt-leb _ _ (c .if1 .left))))

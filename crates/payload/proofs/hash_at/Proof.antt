@@ -4,11 +4,5 @@ use borrow.Author.Needs.{needs}
 use Rattle.payload.proofs.hash_at.Statement.{statement}
 use Rattle.payload.proofs.hash_at.Tie as tie
 
-hash-bits-requires : tie.Need-hash-bits-requires
-hash-bits-requires c κs = search needs
-
-returns : tie.Need-returns
-returns c = rw (c .hash-bits .ensures)
-
 pub hash-at-spec : {M : Type 1} → statement M
-hash-at-spec = tie.close (tie.spec hash-bits-requires returns)
+hash-at-spec = tie.close (tie.spec (λ c κs. search needs) (λ c. rw (c .hash-bits .ensures)))

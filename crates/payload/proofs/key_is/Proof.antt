@@ -5,11 +5,5 @@ use borrow.Author.Needs.{needs}
 use Rattle.payload.proofs.key_is.Statement.{statement}
 use Rattle.payload.proofs.key_is.Tie as tie
 
-same-requires : tie.Need-same-requires
-same-requires c κs = search needs
-
-returns : tie.Need-returns
-returns c = test-is _ _ _ (c .same .ensures .0) (c .same .ensures .1)
-
 pub key-is-spec : {M : Type 1} → statement M
-key-is-spec = tie.close (tie.spec same-requires returns)
+key-is-spec = tie.close (tie.spec (λ c κs. search needs) (λ c. test-is _ _ _ (c .same .ensures .0) (c .same .ensures .1)))

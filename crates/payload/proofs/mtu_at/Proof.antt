@@ -4,11 +4,5 @@ use borrow.Author.Needs.{needs}
 use Rattle.payload.proofs.mtu_at.Statement.{statement}
 use Rattle.payload.proofs.mtu_at.Tie as tie
 
-le8-requires : tie.Need-le8-requires
-le8-requires c κs = search needs
-
-returns : tie.Need-returns
-returns c = rw (c .le8 .ensures)
-
 pub mtu-at-spec : {M : Type 1} → statement M
-mtu-at-spec = tie.close (tie.spec le8-requires returns)
+mtu-at-spec = tie.close (tie.spec (λ c κs. search needs) (λ c. rw (c .le8 .ensures)))

@@ -4,17 +4,5 @@ use borrow.Author.Needs.{needs}
 use Rattle.payload.proofs.past_plain.Statement.{statement}
 use Rattle.payload.proofs.past_plain.Tie as tie
 
-enum-known-skip : tie.Need-enum-known-skip
-enum-known-skip c = search needs
-
-enum-told : tie.Need-enum-told
-enum-told c = search needs
-
-returns : tie.Need-returns
-returns c = rw (c .before .skip .given .1)
-
-returns-2 : tie.Need-returns-2
-returns-2 c = search needs
-
 pub past-plain-spec : {M : Type 1} → statement M
-past-plain-spec = tie.close (tie.spec enum-known-skip enum-told returns returns-2)
+past-plain-spec = tie.close (tie.spec (λ c. search needs) (λ c. search needs) (λ c. rw (c .before .skip .given .1)) (λ c. search needs))

@@ -6,64 +6,13 @@ use borrow.Author.Needs.{needs}
 use Rattle.payload.proofs.tag_of.Statement.{statement}
 use Rattle.payload.proofs.tag_of.Tie as tie
 
-slice-aggregate-key-is : tie.Need-slice-aggregate-key-is
-slice-aggregate-key-is c = search needs
-
-key-is-requires : tie.Need-key-is-requires
-key-is-requires c κs = search needs
-
-returns : tie.Need-returns
-unfolding tagOf
-returns c = rw (sym (c .before .key-is .ensures) ∙ (c .if1 .taken))
-
-slice-aggregate-key-is-2 : tie.Need-slice-aggregate-key-is-2
-slice-aggregate-key-is-2 c = search needs
-
-key-is-requires-2 : tie.Need-key-is-requires-2
-key-is-requires-2 c κs = search needs
-
-returns-2 : tie.Need-returns-2
-unfolding tagOf
-returns-2 c = rw (sym (c .before .before .before .before .key-is .ensures) ∙ (c .before .before .before .if1 .left), sym (c .before .key-is2 .ensures) ∙ (c .if2 .taken))
-
-slice-aggregate-key-is-3 : tie.Need-slice-aggregate-key-is-3
-slice-aggregate-key-is-3 c = search needs
-
-key-is-requires-3 : tie.Need-key-is-requires-3
-key-is-requires-3 c κs = search needs
-
-returns-3 : tie.Need-returns-3
-unfolding tagOf
-returns-3 c = rw (sym (c .before .before .before .before .before .before .before .key-is .ensures) ∙ (c .before .before .before .before .before .before .if1 .left), sym (c .before .before .before .before .key-is2 .ensures) ∙ (c .before .before .before .if2 .left), sym (c .before .key-is3 .ensures) ∙ (c .if3 .taken))
-
-slice-aggregate-key-is-4 : tie.Need-slice-aggregate-key-is-4
-slice-aggregate-key-is-4 c = search needs
-
-key-is-requires-4 : tie.Need-key-is-requires-4
-key-is-requires-4 c κs = search needs
-
-returns-4 : tie.Need-returns-4
-unfolding tagOf
-returns-4 c = rw (sym (c .before .before .before .before .before .before .before .before .before .before .key-is .ensures) ∙ (c .before .before .before .before .before .before .before .before .before .if1 .left), sym (c .before .before .before .before .before .before .before .key-is2 .ensures) ∙ (c .before .before .before .before .before .before .if2 .left), sym (c .before .before .before .before .key-is3 .ensures) ∙ (c .before .before .before .if3 .left), sym (c .before .key-is4 .ensures) ∙ (c .if4 .taken))
-
-returns-5 : tie.Need-returns-5
-unfolding tagOf
-returns-5 c = rw (sym (c .before .before .before .before .before .before .before .before .before .before .key-is .ensures) ∙ (c .before .before .before .before .before .before .before .before .before .if1 .left), sym (c .before .before .before .before .before .before .before .key-is2 .ensures) ∙ (c .before .before .before .before .before .before .if2 .left), sym (c .before .before .before .before .key-is3 .ensures) ∙ (c .before .before .before .if3 .left), sym (c .before .key-is4 .ensures) ∙ (c .if4 .left))
-
 pub tag-of-spec : {M : Type 1} → statement M
+unfolding tagOf
 tag-of-spec =
     tie.close
     (tie.spec
-    slice-aggregate-key-is
-    key-is-requires
-    returns
-    slice-aggregate-key-is-2
-    key-is-requires-2
-    returns-2
-    slice-aggregate-key-is-3
-    key-is-requires-3
-    returns-3
-    slice-aggregate-key-is-4
-    key-is-requires-4
-    returns-4
-    returns-5)
+    (λ c. search needs) (λ c κs. search needs) (λ c. rw (sym (c .before .key-is .ensures) ∙ (c .if1 .taken)))  -- protocolVersion
+    (λ c. search needs) (λ c κs. search needs) (λ c. rw (sym (c .before .before .before .before .key-is .ensures) ∙ (c .before .before .before .if1 .left), sym (c .before .key-is2 .ensures) ∙ (c .if2 .taken)))  -- hashId
+    (λ c. search needs) (λ c κs. search needs) (λ c. rw (sym (c .before .before .before .before .before .before .before .key-is .ensures) ∙ (c .before .before .before .before .before .before .if1 .left), sym (c .before .before .before .before .key-is2 .ensures) ∙ (c .before .before .before .if2 .left), sym (c .before .key-is3 .ensures) ∙ (c .if3 .taken)))  -- mtu
+    (λ c. search needs) (λ c κs. search needs) (λ c. rw (sym (c .before .before .before .before .before .before .before .before .before .before .key-is .ensures) ∙ (c .before .before .before .before .before .before .before .before .before .if1 .left), sym (c .before .before .before .before .before .before .before .key-is2 .ensures) ∙ (c .before .before .before .before .before .before .if2 .left), sym (c .before .before .before .before .key-is3 .ensures) ∙ (c .before .before .before .if3 .left), sym (c .before .key-is4 .ensures) ∙ (c .if4 .taken)))  -- rejectedParams
+    (λ c. rw (sym (c .before .before .before .before .before .before .before .before .before .before .key-is .ensures) ∙ (c .before .before .before .before .before .before .before .before .before .if1 .left), sym (c .before .before .before .before .before .before .before .key-is2 .ensures) ∙ (c .before .before .before .before .before .before .if2 .left), sym (c .before .before .before .before .key-is3 .ensures) ∙ (c .before .before .before .if3 .left), sym (c .before .key-is4 .ensures) ∙ (c .if4 .left))))  -- Unknown

@@ -6,17 +6,5 @@ use borrow.Author.Needs.{needs}
 use Rattle.payload.proofs.append.put_eight.Statement.{statement}
 use Rattle.payload.proofs.append.put_eight.Tie as tie
 
-put-le8-requires : tie.Need-put-le8-requires
-put-le8-requires c κs = search needs
-
-add-result : tie.Need-add-result
-add-result c = search needs
-
-same-length : tie.Need-same-length
-same-length c = search needs
-
-returns : tie.Need-returns
-returns c = number-put 8 _ _ _ _ (length-le 8 (c .before .before .before .before .before .args .x)) (c .before .before .before .before .before .pre) (c .before .before .put-le8 .ensures)
-
 pub put-eight-spec : {M : Type 1} → statement M
-put-eight-spec = tie.close (tie.spec put-le8-requires add-result same-length returns)
+put-eight-spec = tie.close (tie.spec (λ c κs. search needs) (λ c. search needs) (λ c. search needs) (λ c. number-put 8 _ _ _ _ (length-le 8 (c .before .before .before .before .before .args .x)) (c .before .before .before .before .before .pre) (c .before .before .put-le8 .ensures)))

@@ -6,17 +6,5 @@ use borrow.Author.Needs.{needs}
 use Rattle.payload.proofs.append.put_four.Statement.{statement}
 use Rattle.payload.proofs.append.put_four.Tie as tie
 
-put-le4-requires : tie.Need-put-le4-requires
-put-le4-requires c κs = search needs
-
-add-result : tie.Need-add-result
-add-result c = search needs
-
-same-length : tie.Need-same-length
-same-length c = search needs
-
-returns : tie.Need-returns
-returns c = number-put 4 _ _ _ _ (length-le 4 (c .before .before .before .before .before .args .x)) (c .before .before .before .before .before .pre) (c .before .before .put-le4 .ensures)
-
 pub put-four-spec : {M : Type 1} → statement M
-put-four-spec = tie.close (tie.spec put-le4-requires add-result same-length returns)
+put-four-spec = tie.close (tie.spec (λ c κs. search needs) (λ c. search needs) (λ c. search needs) (λ c. number-put 4 _ _ _ _ (length-le 4 (c .before .before .before .before .before .args .x)) (c .before .before .before .before .before .pre) (c .before .before .put-le4 .ensures)))

@@ -1,57 +1,21 @@
 -- `payload::reply::put_rejected` meets its contract: the head, then a document of one element.
 -- Assumes nothing.
 use native.Mathlib.Omega.{arith}
-use Prim.Native.Nat.{_+_}
-use lib.ListN.{length}
-use Rattle.numbers.proofs.Laws.{length-le}
-use Rattle.payload.specs.Tags.{rejectedParams}
-use Rattle.payload.specs.Reply.{firstKey}
-use Rattle.payload.proofs.Replies.{length-head, length-string, rejected-put}
+use Rattle.payload.specs.Reply.{rejectedElement, arrayElement}
+use Rattle.payload.proofs.Appends.{then-put}
+use Rattle.payload.proofs.Replies.{head-ends, number-ends, string-ends, document-put}
 use borrow.Author.Needs.{needs}
 use Rattle.payload.proofs.reply.put_rejected.Statement.{statement}
 use Rattle.payload.proofs.reply.put_rejected.Tie as tie
 
-slice-aggregate-put-head : tie.Need-slice-aggregate-put-head
-slice-aggregate-put-head c = search needs
-
-put-head-requires : tie.Need-put-head-requires
-put-head-requires c κs = search needs
-
-cast-put-four : tie.Need-cast-put-four
-cast-put-four c = search needs
-
-add-put-four : tie.Need-add-put-four
-add-put-four c = search needs
-
-put-four-requires : tie.Need-put-four-requires
-put-four-requires c κs = omega (arith, (c .before .before .before .before .before .before .before .before .pre .0), (c .before .before .before .put-head .ensures .ends), length-head 4 rejectedParams)
-
-slice-aggregate-put-string : tie.Need-slice-aggregate-put-string
-slice-aggregate-put-string c = search needs
-
-put-string-requires : tie.Need-put-string-requires
-put-string-requires c κs = (omega (arith, (c .before .before .before .before .before .before .before .before .before .before .before .before .before .pre .0), (c .before .before .before .before .put-four .ensures .ends), length-le 4 (length (c .before .before .before .before .before .before .before .before .before .before .before .before .before .args .name .now) + 13), (c .before .before .before .before .before .before .before .before .put-head .ensures .ends), length-head 4 rejectedParams), (c .before .before .before .before .before .before .before .before .before .before .before .before .before .pre .1))
-
-put-byte-requires : tie.Need-put-byte-requires
-put-byte-requires c κs = omega (arith, (c .before .before .before .before .before .before .before .before .before .before .before .before .before .before .before .before .before .pre .0), (c .before .before .before .put-string .ensures .ends), length-string firstKey (c .before .before .before .before .before .before .before .before .before .before .before .before .before .before .before .before .before .args .name .now), (c .before .before .before .before .before .before .before .before .put-four .ensures .ends), length-le 4 (length (c .before .before .before .before .before .before .before .before .before .before .before .before .before .before .before .before .before .args .name .now) + 13), (c .before .before .before .before .before .before .before .before .before .before .before .before .put-head .ensures .ends), length-head 4 rejectedParams)
-
-same-length : tie.Need-same-length
-same-length c = search needs
-
-returns : tie.Need-returns
-returns c = rejected-put (c .before .before .before .before .before .before .before .before .before .before .before .before .before .before .before .before .before .before .before .before .args .name .now) (c .before .before .before .before .before .before .before .before .before .before .before .before .before .before .before .before .before .before .before .before .pre .0) (c .before .before .before .before .before .before .before .before .before .before .before .before .before .before .before .put-head .ensures) (c .before .before .before .before .before .before .before .before .before .before .before .put-four .ensures) (c .before .before .before .before .before .before .put-string .ensures) (c .before .before .put-byte .ensures)
-
 pub put-rejected-spec : {M : Type 1} → statement M
+unfolding rejectedElement arrayElement
 put-rejected-spec =
     tie.close
     (tie.spec
-    slice-aggregate-put-head
-    put-head-requires
-    cast-put-four
-    add-put-four
-    put-four-requires
-    slice-aggregate-put-string
-    put-string-requires
-    put-byte-requires
-    same-length
-    returns)
+    (λ c. search needs) (λ c κs. search needs)  -- put_head
+    (λ c. search needs) (λ c. search needs) (λ c κs. omega (arith, head-ends))  -- put_four
+    (λ c. search needs) (λ c κs. omega (arith, head-ends, number-ends))  -- put_string
+    (λ c κs. omega (arith, head-ends, number-ends, string-ends))  -- put_byte
+    (λ c. search needs)
+    (λ c. then-put (omega (arith, head-ends)) (c .before .before .before .before .before .before .before .before .before .before .before .before .before .before .before .put-head .ensures) (document-put _ _ (omega (arith, string-ends)) (omega (arith, head-ends, number-ends, string-ends)) (c .before .before .before .before .before .before .before .before .before .before .before .put-four .ensures) (c .before .before .before .before .before .before .put-string .ensures) (c .before .before .put-byte .ensures))))

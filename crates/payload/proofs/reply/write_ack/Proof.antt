@@ -1,66 +1,23 @@
 -- `payload::reply::write_ack` meets its contract: the size is known first; then the document's length, its elements and its last 0.
 -- Assumes nothing.
 use native.Mathlib.Omega.{arith}
-use Prim.Native.Nat.{_+_}
-use Rattle.numbers.proofs.Laws.{length-le}
 use Rattle.payload.specs.Reply.{ackPayload}
-use Rattle.payload.specs.Version.{versionText}
-use Rattle.payload.proofs.Appends.{too-small, all-put}
-use Rattle.payload.proofs.Replies.{length-grant, length-string, length-ack, ack-put}
-use Rattle.payload.specs.Tags.{protocolVersion}
+use Rattle.payload.proofs.Appends.{then-put, too-small, all-put}
+use Rattle.payload.proofs.Replies.{length-ack, number-ends, grant-ends, string-ends, document-put}
 use borrow.Author.Needs.{needs}
 use Rattle.payload.proofs.reply.write_ack.Statement.{statement}
 use Rattle.payload.proofs.reply.write_ack.Tie as tie
 
-add-end : tie.Need-add-end
-add-end c = search needs
-
-add-end-2 : tie.Need-add-end-2
-add-end-2 c = search needs
-
-size-requires : tie.Need-size-requires
-size-requires c κs = search needs
-
-add-end-3 : tie.Need-add-end-3
-add-end-3 c = omega (arith, (c .size .ensures .1))
-
-returns : tie.Need-returns
-returns c = too-small (ackPayload (c .before .before .before .args .hash) (c .before .before .before .args .mtu) (c .before .before .before .args .version)) (c .before .before .before .args .out .now) (52 + (c .before .size .result)) (omega (arith, (c .before .size .ensures .0), length-ack (c .before .before .before .args .hash) (c .before .before .before .args .mtu) (c .before .before .before .args .version))) (omega arith)
-
-cast-put-four : tie.Need-cast-put-four
-cast-put-four c = omega (arith, (c .before .size .ensures .1))
-
-put-four-requires : tie.Need-put-four-requires
-put-four-requires c κs = search needs
-
-put-grant-requires : tie.Need-put-grant-requires
-put-grant-requires c κs = omega (arith, (c .before .before .before .before .before .if1 .left), simp length-le at (c .before .before .before .put-four .ensures .ends))
-
-put-version-requires : tie.Need-put-version-requires
-put-version-requires c κs = (omega (arith, (c .before .before .before .before .before .before .before .before .before .if1 .left), (c .before .before .before .before .before .before .before .before .before .before .size .ensures .0), (c .before .before .before .put-grant .ensures .ends), simp length-le at (c .before .before .before .before .before .before .before .put-four .ensures .ends), length-grant (c .before .before .before .before .before .before .before .before .before .before .before .before .args .hash) (c .before .before .before .before .before .before .before .before .before .before .before .before .args .mtu)), omega (arith, (c .before .before .before .before .before .before .before .before .before .before .size .ensures .0), (c .before .before .before .before .before .before .before .before .before .before .size .ensures .1)))
-
-put-byte-requires : tie.Need-put-byte-requires
-put-byte-requires c κs = omega (arith, (c .before .before .before .before .before .before .before .before .before .before .before .before .before .if1 .left), (c .before .before .before .before .before .before .before .before .before .before .before .before .before .before .size .ensures .0), (c .before .before .before .put-version .ensures .ends), (c .before .before .before .before .before .before .before .put-grant .ensures .ends), simp length-le at (c .before .before .before .before .before .before .before .before .before .before .before .put-four .ensures .ends), length-grant (c .before .before .before .before .before .before .before .before .before .before .before .before .before .before .before .before .args .hash) (c .before .before .before .before .before .before .before .before .before .before .before .before .before .before .before .before .args .mtu), length-string protocolVersion (versionText (c .before .before .before .before .before .before .before .before .before .before .before .before .before .before .before .before .args .version)))
-
-same-length : tie.Need-same-length
-same-length c = search needs
-
-returns-2 : tie.Need-returns-2
-returns-2 c = all-put (ackPayload (c .before .before .before .before .before .before .before .before .before .before .before .before .before .before .before .before .before .before .before .args .hash) (c .before .before .before .before .before .before .before .before .before .before .before .before .before .before .before .before .before .before .before .args .mtu) (c .before .before .before .before .before .before .before .before .before .before .before .before .before .before .before .before .before .before .before .args .version)) (c .before .before .before .before .before .before .before .before .before .before .before .before .before .before .before .before .before .before .before .args .out .now) (52 + (c .before .before .before .before .before .before .before .before .before .before .before .before .before .before .before .before .before .size .result)) (omega (arith, (c .before .before .before .before .before .before .before .before .before .before .before .before .before .before .before .before .before .size .ensures .0), length-ack (c .before .before .before .before .before .before .before .before .before .before .before .before .before .before .before .before .before .before .before .args .hash) (c .before .before .before .before .before .before .before .before .before .before .before .before .before .before .before .before .before .before .before .args .mtu) (c .before .before .before .before .before .before .before .before .before .before .before .before .before .before .before .before .before .before .before .args .version))) (c .before .before .before .before .before .before .before .before .before .before .before .before .before .before .before .before .if1 .left) (ack-put (c .before .before .before .before .before .before .before .before .before .before .before .before .before .before .before .before .before .before .before .args .hash) (c .before .before .before .before .before .before .before .before .before .before .before .before .before .before .before .before .before .before .before .args .mtu) (c .before .before .before .before .before .before .before .before .before .before .before .before .before .before .before .before .before .before .before .args .version) (c .before .before .before .before .before .before .before .before .before .before .before .before .before .before .before .before .before .size .ensures .0) (c .before .before .before .before .before .before .before .before .before .before .before .before .before .before .before .before .if1 .left) (c .before .before .before .before .before .before .before .before .before .before .before .before .before .before .put-four .ensures) (c .before .before .before .before .before .before .before .before .before .before .put-grant .ensures) (c .before .before .before .before .before .before .put-version .ensures) (c .before .before .put-byte .ensures))
-
 pub write-ack-spec : {M : Type 1} → statement M
+unfolding ackPayload
 write-ack-spec =
     tie.close
     (tie.spec
-    add-end
-    add-end-2
-    size-requires
-    add-end-3
-    returns
-    cast-put-four
-    put-four-requires
-    put-grant-requires
-    put-version-requires
-    put-byte-requires
-    same-length
-    returns-2)
+    (λ c. search needs) (λ c. search needs) (λ c κs. search needs) (λ c. search needs)  -- end
+    (λ c. let a = c .before .before .before .args in too-small (ackPayload (a .hash) (a .mtu) (a .version)) _ _ (length-ack _ _ _) (omega arith))  -- Refused
+    (λ c. search needs) (λ c κs. search needs)  -- put_four
+    (λ c κs. omega (arith, number-ends))  -- put_grant
+    (λ c κs. omega (arith, number-ends, grant-ends))  -- put_version
+    (λ c κs. omega (arith, number-ends, grant-ends, string-ends))  -- put_byte
+    (λ c. search needs)
+    (λ c. let a = c .before .before .before .before .before .before .before .before .before .before .before .before .before .before .before .before .before .before .before .args in let tags = then-put (omega (arith, number-ends, grant-ends)) (c .before .before .before .before .before .before .before .before .before .before .put-grant .ensures) (c .before .before .before .before .before .before .put-version .ensures) in all-put (ackPayload (a .hash) (a .mtu) (a .version)) _ _ (length-ack _ _ _) (omega arith) (omega arith) (document-put _ _ (omega (arith, grant-ends, string-ends)) (omega (arith, number-ends, grant-ends, string-ends)) (c .before .before .before .before .before .before .before .before .before .before .before .before .before .before .put-four .ensures) tags (c .before .before .put-byte .ensures))))  -- Bytes(end)

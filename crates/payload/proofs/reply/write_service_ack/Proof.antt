@@ -1,48 +1,22 @@
 -- `payload::reply::write_service_ack` meets its contract: the size is known first; then the document's length, its elements and its last 0.
 -- Assumes nothing.
 use native.Mathlib.Omega.{arith}
-use mathlib.Core.Path.{sym}
-use Rattle.numbers.proofs.Laws.{length-le}
 use Rattle.payload.specs.Reply.{serviceAckPayload}
 use Rattle.payload.proofs.Appends.{too-small, all-put}
-use Rattle.payload.proofs.Replies.{length-grant, length-service-ack, service-ack-put}
+use Rattle.payload.proofs.Replies.{length-service-ack, document-put, number-ends, grant-ends}
 use borrow.Author.Needs.{needs}
 use Rattle.payload.proofs.reply.write_service_ack.Statement.{statement}
 use Rattle.payload.proofs.reply.write_service_ack.Tie as tie
 
-add-end : tie.Need-add-end
-add-end c = search needs
-
-returns : tie.Need-returns
-returns c = too-small (serviceAckPayload (c .before .before .args .hash) (c .before .before .args .mtu)) (c .before .before .args .out .now) 30 (sym (length-service-ack (c .before .before .args .hash) (c .before .before .args .mtu))) (c .if1 .taken)
-
-cast-put-four : tie.Need-cast-put-four
-cast-put-four c = search needs
-
-put-four-requires : tie.Need-put-four-requires
-put-four-requires c κs = search needs
-
-put-grant-requires : tie.Need-put-grant-requires
-put-grant-requires c κs = omega (arith, (c .before .before .before .before .before .if1 .left), (c .before .before .before .put-four .ensures .ends), length-le 4 30)
-
-put-byte-requires : tie.Need-put-byte-requires
-put-byte-requires c κs = omega (arith, (c .before .before .before .before .before .before .before .before .before .if1 .left), (c .before .before .before .put-grant .ensures .ends), (c .before .before .before .before .before .before .before .put-four .ensures .ends), length-le 4 30, length-grant (c .before .before .before .before .before .before .before .before .before .before .before .args .hash) (c .before .before .before .before .before .before .before .before .before .before .before .args .mtu))
-
-same-length : tie.Need-same-length
-same-length c = search needs
-
-returns-2 : tie.Need-returns-2
-returns-2 c = all-put (serviceAckPayload (c .before .before .before .before .before .before .before .before .before .before .before .before .before .before .args .hash) (c .before .before .before .before .before .before .before .before .before .before .before .before .before .before .args .mtu)) (c .before .before .before .before .before .before .before .before .before .before .before .before .before .before .args .out .now) 30 (sym (length-service-ack (c .before .before .before .before .before .before .before .before .before .before .before .before .before .before .args .hash) (c .before .before .before .before .before .before .before .before .before .before .before .before .before .before .args .mtu))) (c .before .before .before .before .before .before .before .before .before .before .before .before .if1 .left) (service-ack-put (c .before .before .before .before .before .before .before .before .before .before .before .before .before .before .args .hash) (c .before .before .before .before .before .before .before .before .before .before .before .before .before .before .args .mtu) (c .before .before .before .before .before .before .before .before .before .before .before .before .if1 .left) (c .before .before .before .before .before .before .before .before .before .before .put-four .ensures) (c .before .before .before .before .before .before .put-grant .ensures) (c .before .before .put-byte .ensures))
-
 pub write-service-ack-spec : {M : Type 1} → statement M
+unfolding serviceAckPayload
 write-service-ack-spec =
     tie.close
     (tie.spec
-    add-end
-    returns
-    cast-put-four
-    put-four-requires
-    put-grant-requires
-    put-byte-requires
-    same-length
-    returns-2)
+    (λ c. search needs)  -- end
+    (λ c. let a = c .before .before .args in too-small (serviceAckPayload (a .hash) (a .mtu)) _ _ (length-service-ack _ _) (omega arith))  -- Refused
+    (λ c. search needs) (λ c κs. search needs)  -- put_four
+    (λ c κs. omega (arith, number-ends))  -- put_grant
+    (λ c κs. omega (arith, number-ends, grant-ends))  -- put_byte
+    (λ c. search needs)
+    (λ c. let a = c .before .before .before .before .before .before .before .before .before .before .before .before .before .before .args in all-put (serviceAckPayload (a .hash) (a .mtu)) _ _ (length-service-ack _ _) (omega arith) (omega arith) (document-put _ _ (omega (arith, grant-ends)) (omega (arith, number-ends, grant-ends)) (c .before .before .before .before .before .before .before .before .before .before .put-four .ensures) (c .before .before .before .before .before .before .put-grant .ensures) (c .before .before .put-byte .ensures))))  -- Bytes(end)

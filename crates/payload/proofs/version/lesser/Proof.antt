@@ -6,16 +6,6 @@ use borrow.Author.Needs.{needs}
 use Rattle.payload.proofs.version.lesser.Statement.{statement}
 use Rattle.payload.proofs.version.lesser.Tie as tie
 
-at-most-requires : tie.Need-at-most-requires
-at-most-requires c κs = search needs
-
-returns : tie.Need-returns
-unfolding lesserOf
-returns c = rw (sym (c .before .at-most .ensures) ∙ (c .if1 .taken))
-
-returns-2 : tie.Need-returns-2
-unfolding lesserOf
-returns-2 c = rw (sym (c .before .at-most .ensures) ∙ (c .if1 .left))
-
 pub lesser-spec : {M : Type 1} → statement M
-lesser-spec = tie.close (tie.spec at-most-requires returns returns-2)
+unfolding lesserOf
+lesser-spec = tie.close (tie.spec (λ c κs. search needs) (λ c. rw (sym (c .before .at-most .ensures) ∙ (c .if1 .taken))) (λ c. rw (sym (c .before .at-most .ensures) ∙ (c .if1 .left))))

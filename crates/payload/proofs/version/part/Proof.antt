@@ -6,51 +6,14 @@ use borrow.Author.Needs.{needs}
 use Rattle.payload.proofs.version.part.Statement.{statement}
 use Rattle.payload.proofs.version.part.Tie as tie
 
-spare-zero-requires : tie.Need-spare-zero-requires
-spare-zero-requires c κs = search needs
-
-returns : tie.Need-returns
-unfolding partOf
-returns c = rw (sym (c .before .spare-zero .ensures) ∙ (c .if1 .taken))
-
-decimal-to-number-requires : tie.Need-decimal-to-number-requires
-decimal-to-number-requires c κs = search needs
-
-enum-known-n : tie.Need-enum-known-n
-enum-known-n c = search needs
-
-least-requires : tie.Need-least-requires
-least-requires c κs = search needs
-
-enum-told : tie.Need-enum-told
-enum-told c = search needs
-
-enum-told-2 : tie.Need-enum-told-2
-enum-told-2 c = search needs
-
-returns-2 : tie.Need-returns-2
-unfolding partOf
-returns-2 c = rw (sym (c .before .before .before .before .before .before .spare-zero .ensures) ∙ (c .before .before .before .before .before .if1 .left), sym (c .before .before .before .before .decimal-to-number .ensures) ∙ (c .before .before .n .given .1)) (c .least .ensures)
-
-returns-3 : tie.Need-returns-3
-unfolding partOf
-returns-3 c = rw (sym (c .before .before .before .before .spare-zero .ensures) ∙ (c .before .before .before .if1 .left), sym (c .before .before .decimal-to-number .ensures) ∙ (c .enum-told .given .1))
-
-returns-4 : tie.Need-returns-4
-unfolding partOf
-returns-4 c = rw (sym (c .before .before .before .before .spare-zero .ensures) ∙ (c .before .before .before .if1 .left), sym (c .before .before .decimal-to-number .ensures) ∙ (c .enum-told2 .given .1))
-
 pub part-spec : {M : Type 1} → statement M
+unfolding partOf
 part-spec =
     tie.close
     (tie.spec
-    spare-zero-requires
-    returns
-    decimal-to-number-requires
-    enum-known-n
-    least-requires
-    enum-told
-    enum-told-2
-    returns-2
-    returns-3
-    returns-4)
+    (λ c κs. search needs)  -- spare_zero
+    (λ c. rw (sym (c .before .spare-zero .ensures) ∙ (c .if1 .taken)))  -- NO_PART
+    (λ c κs. search needs)  -- decimal_to_number
+    (λ c. search needs) (λ c κs. search needs)  -- Value(n)
+    (λ c. search needs) (λ c. search needs)  -- NotDecimal, TooLarge
+    (λ c. rw (sym (c .before .before .before .before .before .before .spare-zero .ensures) ∙ (c .before .before .before .before .before .if1 .left), sym (c .before .before .before .before .decimal-to-number .ensures) ∙ (c .before .before .n .given .1)) (c .least .ensures)) (λ c. rw (sym (c .before .before .before .before .spare-zero .ensures) ∙ (c .before .before .before .if1 .left), sym (c .before .before .decimal-to-number .ensures) ∙ (c .enum-told .given .1))) (λ c. rw (sym (c .before .before .before .before .spare-zero .ensures) ∙ (c .before .before .before .if1 .left), sym (c .before .before .decimal-to-number .ensures) ∙ (c .enum-told2 .given .1))))

@@ -5,14 +5,5 @@ use borrow.Author.Needs.{needs}
 use Rattle.payload.proofs.version.spare_zero.Statement.{statement}
 use Rattle.payload.proofs.version.spare_zero.Tie as tie
 
-returns : tie.Need-returns
-returns c = rw (lt-leb _ _ (c .if1 .taken))
-
-shared-slice-read-result : tie.Need-shared-slice-read-result
-shared-slice-read-result c = search needs
-
-returns-2 : tie.Need-returns-2
-returns-2 c = rw (le-leb _ _ (c .before .if1 .left))
-
 pub spare-zero-spec : {M : Type 1} → statement M
-spare-zero-spec = tie.close (tie.spec returns shared-slice-read-result returns-2)
+spare-zero-spec = tie.close (tie.spec (λ c. rw (lt-leb _ _ (c .if1 .taken))) (λ c. search needs) (λ c. rw (le-leb _ _ (c .before .if1 .left))))

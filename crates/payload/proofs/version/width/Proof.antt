@@ -6,14 +6,10 @@ use Rattle.payload.proofs.Versions.{digits-one, digits-two, digits-thre
 use Rattle.payload.proofs.version.width.Statement.{statement}
 use Rattle.payload.proofs.version.width.Tie as tie
 
-returns : tie.Need-returns
-returns c = (sym (digits-one (c .before .args .n) (c .if1 .taken)), omega arith)
-
-returns-2 : tie.Need-returns-2
-returns-2 c = (sym (digits-two (c .before .before .args .n) (c .before .if1 .left) (c .if2 .taken)), omega arith)
-
-returns-3 : tie.Need-returns-3
-returns-3 c = (sym (digits-three (c .before .before .args .n) (c .if2 .left) (omega arith)), omega arith)
-
 pub width-spec : {M : Type 1} → statement M
-width-spec = tie.close (tie.spec returns returns-2 returns-3)
+width-spec =
+    tie.close
+    (tie.spec
+    (λ c. (sym (digits-one (c .before .args .n) (c .if1 .taken)), omega arith))  -- 1
+    (λ c. (sym (digits-two (c .before .before .args .n) (c .before .if1 .left) (c .if2 .taken)), omega arith))  -- 2
+    (λ c. (sym (digits-three (c .before .before .args .n) (c .if2 .left) (omega arith)), omega arith)))  -- 3
