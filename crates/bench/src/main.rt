@@ -3,9 +3,10 @@
 // It assumes nothing of the input: bytes of any kind and any number.
 ghost use Prim.Native.Nat.{_+_, _≤_, min};
 ghost use mathlib.Core.Path.{_≡_};
+ghost use mathlib.Core.Bool.{true};
 ghost use mathlib.Core.List.{_++_};
 ghost use lib.ListN.{length, take};
-ghost use Rattle.benchline.specs.Line.{left, lineOf, mostText};
+ghost use Rattle.benchline.specs.Line.{startOf, left, lineOf, mostText};
 ghost use Rattle.bench.specs.Pieces.{poolSize, outSize, IsText, sizeOf, mostKept, runOf, waitingBefore, written, afterLines, linesIn, keptAfter, waits, lastOf};
 use benchline::Bench;
 use benchline::Output;
@@ -227,12 +228,12 @@ fn end_input(left: Left, line: &[u8], pool: &mut [u8], out: &mut [u8], texts: &m
     answered(ready, output, texts.len())
 }
 
-// A proved loop has to end, and nothing says that the input does. So the turns are counted down, from a number that no run uses up.
-fn serve(piece: &mut [u8], line: &mut [u8], pool: &mut [u8], out: &mut [u8], texts: &mut [u8])
-    requires { ⌜ (length (now pool) ≡ poolSize) × (length (now out) ≡ outSize) ⌝ }
-    requires { ⌜ (mostText (now out) ≤ length (now texts)) × (mostKept ≤ length (now line)) ⌝ }
+// Before the first piece: nothing is kept, nothing waits, and there is input to read.
+fn begin() -> Left
+    ensures { λ r. ⌜ (r .bench ≡ startOf) × ((r .state .filled ≡ 0) × (r .state .waiting ≡ 0)) ⌝ }
+    ensures { λ r. ⌜ (r .state .more ≡ true) × (r .state .taken ≡ true) ⌝ }
 {
-    let mut now = Left {
+    Left {
         state: State {
             filled: 0,
             waiting: 0,
@@ -240,7 +241,15 @@ fn serve(piece: &mut [u8], line: &mut [u8], pool: &mut [u8], out: &mut [u8], tex
             taken: true,
         },
         bench: benchline::start(),
-    };
+    }
+}
+
+// A proved loop has to end, and nothing says that the input does. So the turns are counted down, from a number that no run uses up.
+fn serve(piece: &mut [u8], line: &mut [u8], pool: &mut [u8], out: &mut [u8], texts: &mut [u8])
+    requires { ⌜ (length (now pool) ≡ poolSize) × (length (now out) ≡ outSize) ⌝ }
+    requires { ⌜ (mostText (now out) ≤ length (now texts)) × (mostKept ≤ length (now line)) ⌝ }
+{
+    let mut now = begin();
     let mut turns = u64::MAX;
     while turns > 0 && now.state.more {
         now = read_piece(now, piece, line, pool, out, texts);

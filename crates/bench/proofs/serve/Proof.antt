@@ -18,7 +18,7 @@ serve-spec =
     (tie.spec
     Inv-loop
     μ-loop
-    (λ c κs. search needs) (λ c. search needs) (λ c κs. search needs) (λ c. search needs)  -- start-requires, loop-holds, read-piece-requires, sub-turns
+    (λ c κs. search needs) (λ c. search needs) (λ c κs. search needs) (λ c. search needs)  -- begin-requires, loop-holds, read-piece-requires, sub-turns
     (λ c. search needs) (λ c. search needs) (λ c κs. search needs) (λ c κs. search needs)  -- loop-less, loop-again, end-input-requires, flush-requires
     (λ c. search needs) (λ c. search needs) (λ c. search needs) (λ c. search needs)  -- same-length, same-length-2, same-length-3, same-length-4
     (λ c. search needs) (λ c. search needs))  -- same-length-5, returns
