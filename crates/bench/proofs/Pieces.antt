@@ -64,11 +64,17 @@ refused-long : (b : Bench) (line pool out text : List ℕ) → mostDigits < leng
 unfolding lineOf
 refused-long b line pool out text h = rw (too-long line h)
 
-pub line-cut : (b : Bench) (n : ℕ) (line pool out text : List ℕ) → mostKept ≤ n → lineOf b (take n line) pool out text ≡ lineOf b line pool out text
-line-cut b n line pool out text h =
-    split (leb (length line) n) (λ e. ap (λ (l : List ℕ). lineOf b l pool out text) (take-all n line (leb-true (length line) n e))) λ e.
-    let g : n < length line = leb-false (length line) n e in
-    refused-long b (take n line) pool out text (omega (arith, h, g, length-take n line)) ∙ sym (refused-long b line pool out text (omega (arith, h, g)))
+module _ (n : ℕ) (h : mostKept ≤ n) where
+  -- a line of which the front was cut
+  front-cut : (b : Bench) (front s pool out text : List ℕ) → lineOf b (take n front ++ s) pool out text ≡ lineOf b (front ++ s) pool out text
+  front-cut b front s pool out text =
+      split (leb (length front) n) (λ e. ap (λ (l : List ℕ). lineOf b (l ++ s) pool out text) (take-all n front (leb-true (length front) n e))) λ e.
+      let g : n < length front = leb-false (length front) n e in
+      refused-long b (take n front ++ s) pool out text (omega (arith, h, g, length-take n front, length-append (take n front) s))
+      ∙ sym (refused-long b (front ++ s) pool out text (omega (arith, h, g, length-append front s)))
+
+  line-cut : (b : Bench) (line pool out text : List ℕ) → lineOf b (take n line) pool out text ≡ lineOf b line pool out text
+  line-cut b line pool out text = rw (append-nil (take n line), append-nil line) at (front-cut b line [] pool out text)
 
 -- ---- a line behind what was gathered
 
@@ -78,7 +84,7 @@ pub gathered : (b : Bench) (line part pool out text : List ℕ) (filled : ℕ) {
     → lineOf b q pool out text ≡ lineOf b (take filled line ++ part) pool out text
 gathered b line part pool out text filled {n} {line′} {q} h e f g =
     ap (λ (l : List ℕ). lineOf b l pool out text) (g ∙ ap (take n) f ∙ put-front line part filled e)
-    ∙ line-cut b (length line) (take filled line ++ part) pool out text h
+    ∙ line-cut (length line) h b (take filled line ++ part) pool out text
 
 -- ---- texts that wait
 
@@ -214,21 +220,13 @@ kept-of-both kept [] q = refl
 kept-of-both kept (b ∷ p) q = split (eqb b 10) (λ t. rw t (kept-of-both [] p q)) (λ f. rw f (kept-of-both (kept ++ b ∷ []) p q))
 
 module _ (n : ℕ) (h : mostKept ≤ n) where
-  -- a line of which the front was cut
-  front-cut : (b : Bench) (front s pool out text : List ℕ) → lineOf b (take n front ++ s) pool out text ≡ lineOf b (front ++ s) pool out text
-  front-cut b front s pool out text =
-      split (leb (length front) n) (λ e. ap (λ (l : List ℕ). lineOf b (l ++ s) pool out text) (take-all n front (leb-true (length front) n e))) λ e.
-      let g : n < length front = leb-false (length front) n e in
-      refused-long b (take n front ++ s) pool out text (omega (arith, h, g, length-take n front, length-append (take n front) s))
-      ∙ sym (refused-long b (front ++ s) pool out text (omega (arith, h, g, length-append front s)))
-
   lines-cut : (r : Run) (front s q : List ℕ) → afterLines r (linesIn (take n front ++ s) q) ≡ afterLines r (linesIn (front ++ s) q)
   unfolding afterLines linesIn
   lines-cut r front s [] = refl
   lines-cut r front s (b ∷ q) =
       let w = waitingBefore (r .out) (r .texts) (r .waiting) in
       split (eqb b 10)
-      (λ t. rw t (ap (λ (l : Left). afterLines (joined w (r .texts) l) (linesIn [] q)) (front-cut (r .bench) front s (r .pool) (r .out) (drop w (r .texts)))))
+      (λ t. rw t (ap (λ (l : Left). afterLines (joined w (r .texts) l) (linesIn [] q)) (front-cut n h (r .bench) front s (r .pool) (r .out) (drop w (r .texts)))))
       (λ f. rw (f, append-assoc (take n front) s (b ∷ []), append-assoc front s (b ∷ [])) (lines-cut r front (s ++ b ∷ []) q))
 
   -- however the input is cut into pieces, its lines are the same, and each is answered as the whole line: n characters of what goes on are kept
