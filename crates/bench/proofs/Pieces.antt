@@ -12,6 +12,7 @@ use borrow.Rule.Slice.PartMut.{midOf, putMid}
 use borrow.Author.Tests.{leb-true, leb-false, le-leb, lt-leb}
 use Rattle.numbers.specs.Bytes.{unless, laid}
 use Rattle.numbers.proofs.Choices.{split, either, unless-elim}
+use Rattle.numbers.proofs.Slices.{rest-lent}
 use Rattle.lines.specs.Hex.{bytesOf}
 use Rattle.lines.specs.Newline.{lineLength, lineEndOf}
 use Rattle.link.specs.Call.{callOf}
@@ -121,10 +122,7 @@ module _ {t : Turn} {pool′ out′ text′ : List ℕ} (b : Bench) (line pool o
       ∙ ap (joined w texts) e
       ∙ ap (λ (i : ℕ). answeredAt i (runOf b pool out texts waiting) line) h
 
--- the buffer's rest, as it is lent and given back
-pub rest-lent : (texts : List ℕ) (w : ℕ) → midOf w (length texts - w) texts ≡ drop w texts
-rest-lent texts w = take-all (length texts - w) (drop w texts) (omega (arith, length-drop w texts))
-
+-- the buffer's rest, as it is given back
 pub rest-back : (texts text : List ℕ) (w : ℕ) → putMid w (length texts - w) texts text ≡ take w texts ++ text
 rest-back texts text w =
     let h : length (drop w texts) ≤ length texts - w = omega (arith, length-drop w texts) in

@@ -10,13 +10,14 @@ use lib.ListN.{length, take, drop, length-take, length-drop, drop-of-length-le, 
 use lib.Seq.{drop-nil, take-all, take-add, drop-drop, length-take-le, take-append-add, drop-append-add}
 use borrow.Rule.Slice.PartMut.{putMid, same-len-mid}
 use Rattle.numbers.proofs.Choices.{same-or-not}
+use Rattle.numbers.proofs.Slices.{rest-lent}
 use Rattle.blocks.specs.Map.{blockSize, placeOf}
 use Rattle.blocks.specs.Pool.{appendedFrom, over, appended}
 use Rattle.blocks.proofs.Over.{over-length, over-past, over-nothing}
 use Rattle.blocks.proofs.Counts.{place-here, place-later, place-not, place-cases}
 use Rattle.blocks.proofs.Contents.{append-mine, append-not, append-length, block-and-rest, nil-of}
 use Rattle.blocks.proofs.Parts.{starts, ends, cut-short}
-use Rattle.blocks.proofs.Turns.{part-behind, rest-place, place-inside, next-block}
+use Rattle.blocks.proofs.Turns.{rest-place, place-inside, next-block}
 
 -- a pool whose first bytes stay, in one step and in two
 in-two : (f : List ℕ → List ℕ) (a b : ℕ) (pool : List ℕ) → take a pool ++ (take b (drop a pool) ++ f (drop b (drop a pool))) ≡ take (a + b) pool ++ f (drop (a + b) pool)
@@ -163,7 +164,7 @@ module _ {owner first at b place done : ℕ} {payload map before pool : List ℕ
           let block = cut-short (drop start pool) blockSize size (omega (arith, length-drop start pool)) in
           let left : drop (done + n) payload ≡ drop (blockSize - place) (drop done payload) =
           sym (drop-drop n done payload) ∙ cut-short (drop done payload) (blockSize - place) n (omega (arith, length-drop done payload)) .1 in
-          let share : o ≡ over place (drop done payload) (take blockSize (drop start pool)) = put ∙ rw (part-behind payload done, z, block .0) in
+          let share : o ≡ over place (drop done payload) (take blockSize (drop start pool)) = put ∙ rw (rest-lent payload done, z, block .0) in
           record {
             passed = omega arith;
             inside = omega arith;

@@ -8,13 +8,14 @@ use lib.ListN.{length, take, drop, length-append, length-take, length-drop, drop
 use lib.Seq.{take-nil, drop-nil, take-all, take-take, take-at, drop-at, drop-drop, length-take-le, take-append-le, take-append-add}
 use borrow.Rule.Slice.PartMut.{putMid, same-len-mid}
 use Rattle.numbers.proofs.Choices.{same-or-not}
+use Rattle.numbers.proofs.Slices.{rest-lent}
 use Rattle.blocks.specs.Map.{blockSize, heldBy, placeOf}
 use Rattle.blocks.specs.Pool.{blockBytes, over, delivered}
 use Rattle.blocks.proofs.Over.{compare, over-length, over-nothing, over-behind, over-adds, over-append, over-pieces, over-cut, over-full}
 use Rattle.blocks.proofs.Counts.{place-here, place-not}
 use Rattle.blocks.proofs.Contents.{bytes-mine, bytes-not, bytes-none, bytes-length, deliver-length}
 use Rattle.blocks.proofs.Parts.{cut-short}
-use Rattle.blocks.proofs.Turns.{group-most, part-behind, next-block}
+use Rattle.blocks.proofs.Turns.{group-most, next-block}
 
 -- ---- from the owner's first block on
 
@@ -114,7 +115,7 @@ module _ (owner due : ℕ) (map pool out : List ℕ) where
           let next : drop (start + size) pool ≡ drop blockSize (drop start pool) =
           sym (drop-drop size start pool) ∙ cut-short (drop start pool) blockSize size (omega (arith, length-drop start pool)) .1 in
           let more : q ≡ over 0 (take (due - n) (blockBytes owner (drop (k + 1) map) (drop blockSize (drop start pool)))) (drop n out) =
-          e ∙ rw (part-behind map later, part-behind pool behind, part-behind o n, far, l, b, next) in
+          e ∙ rw (rest-lent map later, rest-lent pool behind, rest-lent o n, far, l, b, next) in
           rw (none, append-nil q, more) (sym whole)
 
 -- ---- the blocks among some entries of the map and then the rest
@@ -194,7 +195,7 @@ module _ {owner due most whole from done : ℕ} {map pool before out : List ℕ}
         let z : from + w - from ≡ w = omega arith in
         let y : done + n - done ≡ n = omega arith in
         let room : length (take n (drop done out)) ≡ n = length-take-le n (drop done out) (omega (arith, length-drop done out)) in
-        put ∙ rw (z, y, part-behind pool (blockSize * from)) (over-full (take n bytes) (take n (drop done out)) (share-here ∙ sym room))
+        put ∙ rw (z, y, rest-lent pool (blockSize * from)) (over-full (take n bytes) (take n (drop done out)) (share-here ∙ sym room))
 
     all-here : delivered owner (most - done) (drop from map) (drop (blockSize * from) pool) (drop done out)
         ≡ r ++ delivered owner (most - (done + n)) (drop (from + w) map) (drop (blockSize * (from + w)) pool) (drop n (drop done out))
@@ -248,4 +249,4 @@ module _ {owner due most whole from done : ℕ} {map pool before out : List ℕ}
       let w : 0 - m ≡ 0 = omega arith in
       let cut : over 0 s o ≡ over 0 s (take m o) ++ drop m o
       = ap (over 0 s) (sym (take-append-drop m o)) ∙ over-append 0 s (take m o) (drop m o) ∙ rw (fit, z, w, none, over-nothing 0 (drop m o)) in
-      rw (e, part-behind map from, part-behind pool (blockSize * from), ← cut) (i .rest)
+      rw (e, rest-lent map from, rest-lent pool (blockSize * from), ← cut) (i .rest)

@@ -11,6 +11,7 @@ use lib.Dec.{eqb, leb}
 use lib.ListN.{length, take, drop, getD, set, drop-of-length-le, take-append-drop, length-take, length-drop}
 use lib.Seq.{drop-cons, take-suc, take-suc-set, drop-set-lt, append-snoc, take-all, drop-drop, getD-drop}
 use Rattle.numbers.specs.Bytes.{pick}
+use Rattle.numbers.proofs.Slices.{rest-lent}
 use Rattle.blocks.specs.Map.{free, heldBy, claimed, released, placeOf}
 use Rattle.blocks.proofs.Counts.{held-most, claim-none, claim-taken, claim-held, place-here, place-later, place-not, place-most, place-owner, place-skip}
 
@@ -70,10 +71,6 @@ unfolding heldBy
 held-pieces owner [] b = omega arith
 held-pieces owner (o ∷ a) b = omega (arith, held-pieces owner a b)
 
--- the part of a list from i on, as code lends it
-pub part-behind : (map : List ℕ) (i : ℕ) → take (length map - i) (drop i map) ≡ drop i map
-part-behind map i = take-all (length map - i) (drop i map) (omega (arith, length-drop i map))
-
 module _ (owner : ℕ) (map : List ℕ) (i n : ℕ) {r : ℕ} (e : r ≡ heldBy owner (take (i + n - i) (drop i map))) where
   group-count : r ≡ heldBy owner (take n (drop i map))
   group-count = let z : i + n - i ≡ n = omega arith in e ∙ ap (λ (k : ℕ). heldBy owner (take k (drop i map))) z
@@ -96,10 +93,10 @@ module _ (owner : ℕ) (map : List ℕ) (i n : ℕ) {r : ℕ} (e : r ≡ heldBy 
 
 -- those that are left
 pub rest-count : (owner : ℕ) (map : List ℕ) (i : ℕ) {r : ℕ} → r ≡ heldBy owner (take (length map - i) (drop i map)) → r ≡ heldBy owner (drop i map)
-rest-count owner map i e = e ∙ ap (heldBy owner) (part-behind map i)
+rest-count owner map i e = e ∙ ap (heldBy owner) (rest-lent map i)
 
 pub rest-place : (owner n : ℕ) (map : List ℕ) (i : ℕ) {r : ℕ} → r ≡ placeOf owner n (take (length map - i) (drop i map)) → r ≡ placeOf owner n (drop i map)
-rest-place owner n map i e = e ∙ ap (placeOf owner n) (part-behind map i)
+rest-place owner n map i e = e ∙ ap (placeOf owner n) (rest-lent map i)
 
 pub place-inside : (owner n : ℕ) (map : List ℕ) (i : ℕ) {r : ℕ} → i ≤ length map → r ≡ placeOf owner n (take (length map - i) (drop i map)) → i + r ≤ length map
 place-inside owner n map i h e = omega (arith, rest-place owner n map i e, place-most owner n (drop i map), length-drop i map)
@@ -110,7 +107,7 @@ pub skip-twice : (map : List ℕ) (a b owner n m k : ℕ) {r : ℕ} → a + plac
     → r ≡ placeOf owner k (take (length map - (a + b)) (drop (a + b) map))
     → a + b + r ≡ placeOf owner n map
 skip-twice map a b owner n m k e f g =
-    let near : b + placeOf owner k (drop (a + b) map) ≡ placeOf owner m (drop a map) = rw (part-behind map a, drop-drop b a map) at f in
+    let near : b + placeOf owner k (drop (a + b) map) ≡ placeOf owner m (drop a map) = rw (rest-lent map a, drop-drop b a map) at f in
     omega (arith, rest-place owner k map (a + b) g)
 
 -- finding: the block itself, another of the owner's before it, one of another, the end

@@ -1,9 +1,10 @@
 -- The decimal digits of a number one at a time: the equations that show that the bound decides nothing, a turn of the loop that writes them and of the one that
 -- reads them. By induction over n / 10, n / 100 and so on. Assumes nothing.
-use Prim.Native.Nat.{ℕ, zero, suc, _+_, _-_, _*_, _/_, _%_, _<_, _≤_}
+use Prim.Native.Nat.{ℕ, zero, suc, _+_, _-_, _*_, _/_, _%_, _^_, _<_, _≤_}
 use mathlib.Core.Path.{_≡_, refl, ap, _∙_, sym}
 use mathlib.Core.List.{List, [], _∷_, _++_}
 use native.Mathlib.Numerals.{add-one}
+use native.Mathlib.Nat.{pow-suc}
 use native.Mathlib.Omega.{arith}
 use lib.ListN.{length, take, drop, getD, set, length-append, List·getD-append, take-append-drop, drop-of-length-le}
 use lib.Seq.{drop-cons, drop-at, take-at, take-take, getD-at, getD-take, length-take-le}
@@ -62,6 +63,14 @@ width-step n h = ap length (decimal-step n h) ∙ length-append (decimalOf (n / 
 
 pub width-some : (n : ℕ) → 0 < length (decimalOf n)
 width-some = by-tens (λ n. 0 < length (decimalOf n)) (λ n h. omega (arith, width-one n h)) (λ n h k. omega (arith, width-step n h))
+
+-- a number below ten to the n + 1 has at most n + 1
+pub width-most : (n k : ℕ) → k < 10 ^ suc n → length (decimalOf k) ≤ suc n
+width-most zero k h = omega (arith, width-one k (omega arith))
+width-most (suc n) k h =
+    split (ltb k 10) (λ e. omega (arith, width-one k (ltb-true k 10 e))) λ e.
+    let less : k / 10 < 10 ^ suc n = omega (arith, pow-suc 10 (suc n)) in
+    omega (arith, width-step k (ltb-false k 10 e), width-most n (k / 10) less)
 
 -- the first i + 1 of d end in x
 last-at : (d s : List ℕ) (x i : ℕ) → i < length d → take (i + 1) d ≡ s ++ x ∷ []

@@ -7,9 +7,10 @@ use native.Mathlib.Numerals.{add-one}
 use native.Mathlib.Omega.{arith}
 use lib.Dec.{eqb, leb}
 use lib.ListN.{length, take, drop, getD, length-drop, take-append-drop, drop-of-length-le}
-use lib.Seq.{drop-cons, drop-drop, take-all, length-take-le}
+use lib.Seq.{drop-cons, drop-drop, length-take-le}
 use borrow.Author.Tests.{eq-eqb, ne-eqb, leb-true, leb-false}
 use Rattle.numbers.proofs.Choices.{split}
+use Rattle.numbers.proofs.Slices.{rest-lent}
 use Rattle.lines.specs.Text.{every}
 use Rattle.lines.specs.Newline.{isInLine, lineLength, lineEndOf}
 
@@ -67,7 +68,7 @@ pub line-found : (text : List ℕ) (from start far near last : ℕ) → start �
     → near + last ≡ lineEndOf text from
 unfolding lineEndOf
 line-found text from start far near last s f n l =
-    let all : take (length text - near) (drop near text) ≡ drop near text = take-all (length text - near) (drop near text) (omega (arith, length-drop near text)) in
+    let all : take (length text - near) (drop near text) ≡ drop near text = rest-lent text near in
     let same : drop start text ≡ drop from text =
     split (leb from (length text)) (λ e. let z : start ≡ from = omega (arith, leb-true from (length text) e) in rw z)
     (λ e.

@@ -6,6 +6,7 @@ use mathlib.Core.Logic.{_≢_}
 use mathlib.Core.Bool.{Bool, true, false, _&&_}
 use lib.Dec.{eqb}
 use borrow.Author.Tests.{eqb-true, eqb-false}
+use mir.Val.{boolByte}
 use Rattle.numbers.specs.Bytes.{pick, unless}
 
 pub split : {X : Type 0} (b : Bool) → (b ≡ true → X) → (b ≡ false → X) → X
@@ -24,6 +25,11 @@ either P false x y f g = g refl
 pub unless-elim : {A : Type 0} (P : A → Type 0) (b : Bool) (x y : A) → (b ≡ false → P x) → (b ≡ true → P y) → P (unless b x y)
 unless-elim P true x y f g = g refl
 unless-elim P false x y f g = f refl
+
+-- a test as a number, as code casts it
+pub bit-is : (b : Bool) → boolByte b ≡ pick b 1 0
+bit-is true = refl
+bit-is false = refl
 
 -- two numbers are the same, or not
 pub same-or-not : {X : Type 0} (a b : ℕ) → (a ≡ b → X) → (a ≢ b → X) → X

@@ -1,3 +1,4 @@
 pub mod Choices
 pub mod Laws
+pub mod Slices
 mod Turns

@@ -3,6 +3,7 @@ pub mod Order
 pub mod TopLevel
 pub mod Figures
 pub mod Appends
+pub mod Writers
 pub mod Versions
 pub mod Replies
 pub mod VersionLaws

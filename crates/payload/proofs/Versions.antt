@@ -10,7 +10,7 @@ use lib.Dec.{eqb, leb, ltb}
 use borrow.Author.Tests.{ne-eqb, le-leb, le-ltb, ltb-true, ltb-false, leb-true, eqb-false, not-true}
 use borrow.Rule.Slice.PartMut.{putMid}
 use lib.ListN.{length, take, drop, length-append, length-drop, drop-of-length-le}
-use lib.Seq.{length-take-le, take-all, take-length}
+use lib.Seq.{length-take-le, take-length}
 use Rattle.numbers.proofs.Choices.{and-both, split, unless-elim}
 use Rattle.bytes.specs.Bytes.{indexOf, slice}
 use Rattle.lines.specs.Text.{encoded, writtenOf}
@@ -19,6 +19,7 @@ use Rattle.lines.specs.declared.Encoded.{Encoded}
 use Rattle.lines.specs.declared.Encoded.the-variants.{Chars}
 use Rattle.lines.proofs.Digits.{width-one, width-step}
 use Rattle.numbers.specs.Bytes.{part, laid}
+use Rattle.numbers.proofs.Slices.{rest-lent}
 use Rattle.payload.specs.Append.{Appended}
 use Rattle.payload.specs.Version.{version, beforeDot, afterDot, versionFrom, versionText}
 use Rattle.payload.specs.declared.version.Version.{Version}
@@ -49,7 +50,7 @@ module _ (text : List ℕ) (r : ℕ) (e : r ≡ 0 + indexOf 46 (slice 0 (length 
   pub after-found : take (length text - (r + 1)) (drop (r + 1) text) ≡ afterDot text
   after-found =
       let z : r + 1 ≡ indexOf 46 text + 1 = omega (arith, place) in
-      take-all (length text - (r + 1)) (drop (r + 1) text) (omega (arith, length-drop (r + 1) text)) ∙ rw z
+      rest-lent text (r + 1) ∙ rw z
 
 -- one to three digits
 module _ (n : ℕ) where

@@ -6,9 +6,10 @@ use mathlib.Core.Bool.{Bool, true, false, _&&_}
 use mathlib.Core.List.{List, [], _∷_}
 use native.Mathlib.Omega.{arith}
 use lib.Dec.{eqb}
-use lib.ListN.{length, take, drop, getD, length-take, length-drop, drop-of-length-le}
-use lib.Seq.{take-all, drop-cons, getD-take}
+use lib.ListN.{length, take, drop, getD, length-take, drop-of-length-le}
+use lib.Seq.{drop-cons, getD-take}
 use borrow.Author.Tests.{eq-eqb, eqb-true}
+use Rattle.numbers.proofs.Slices.{rest-lent}
 use Rattle.lines.specs.declared.Decoded.{Decoded}
 use Rattle.lines.specs.Text.{every}
 use Rattle.lines.specs.Hex.{Decoding, decoded, decodeOf, isLowerHex}
@@ -45,8 +46,7 @@ test-is r a b f g = go r (sameBytes a b) refl refl
 -- the part of a slice from a to its end, where a is a place cut at the length
 pub rest-is : (line : List ℕ) (space end : ℕ) {w : List ℕ} {a : ℕ} → w ≡ take end line → a ≡ min (1 + space) (length w) → take (length w - a) (drop a w) ≡ between line space end
 rest-is line space end {w} {a} e h =
-    let l : length (drop a w) ≤ length w - a = omega (arith, length-drop a w) in
-    take-all (length w - a) (drop a w) l ∙ ap (λ (i : ℕ). drop i w) h ∙ drop-min (1 + space) w ∙ ap (drop (1 + space)) e
+    rest-lent w a ∙ ap (λ (i : ℕ). drop i w) h ∙ drop-min (1 + space) w ∙ ap (drop (1 + space)) e
 
 -- one number more, and no more
 module _ (line limits : List ℕ) (i : ℕ) (n : Numbers) where

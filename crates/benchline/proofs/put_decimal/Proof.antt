@@ -3,7 +3,7 @@
 use mathlib.Core.Path.{refl}
 use native.Mathlib.Omega.{arith}
 use Rattle.lines.specs.Decimal.{decimalOf}
-use Rattle.benchline.proofs.Texts.{rest-count, rest-full, rest-put}
+use Rattle.payload.proofs.Writers.{rest-count, rest-full, rest-put}
 use borrow.Author.Needs.{needs}
 use Rattle.benchline.proofs.put_decimal.Statement.{statement}
 use Rattle.benchline.proofs.put_decimal.Tie as tie

@@ -4,7 +4,7 @@ use mathlib.Core.Path.{refl}
 use native.Mathlib.Omega.{arith}
 use Rattle.lines.specs.Hex.{hexOf}
 use Rattle.lines.proofs.Characters.{length-hex}
-use Rattle.benchline.proofs.Texts.{rest-count, rest-full, rest-put}
+use Rattle.payload.proofs.Writers.{rest-count, rest-full, rest-put}
 use borrow.Author.Needs.{needs}
 use Rattle.benchline.proofs.put_hex.Statement.{statement}
 use Rattle.benchline.proofs.put_hex.Tie as tie

@@ -4,7 +4,7 @@ use native.Mathlib.Omega.{arith}
 use mathlib.Core.List.{[], _∷_}
 use Rattle.lines.specs.Decimal.{decimalOf}
 use Rattle.payload.proofs.Appends.{more}
-use Rattle.benchline.proofs.Texts.{width-most}
+use Rattle.lines.proofs.Digits.{width-most}
 use borrow.Author.Needs.{needs}
 use Rattle.benchline.proofs.put_number.Statement.{statement}
 use Rattle.benchline.proofs.put_number.Tie as tie

@@ -8,7 +8,8 @@ use Rattle.lines.specs.Decimal.{decimalOf}
 use Rattle.lines.proofs.Digits.{width-some}
 use Rattle.payload.proofs.Appends.{more, renamed}
 use Rattle.benchline.specs.Line.{letterR}
-use Rattle.benchline.proofs.Texts.{width-most, spaced-some}
+use Rattle.lines.proofs.Digits.{width-most}
+use Rattle.benchline.proofs.Texts.{spaced-some}
 use borrow.Author.Needs.{needs}
 use Rattle.benchline.proofs.put_refusal.Statement.{statement}
 use Rattle.benchline.proofs.put_refusal.Tie as tie

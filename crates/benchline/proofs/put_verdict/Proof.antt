@@ -10,7 +10,8 @@ use Rattle.lines.proofs.Characters.{length-hex}
 use Rattle.payload.proofs.Appends.{renamed}
 use Rattle.link.specs.declared.Answer.{Answer}
 use Rattle.benchline.specs.Line.{spaced, verdictOf}
-use Rattle.benchline.proofs.Texts.{width-most, spaced-most, spaced-service, front-short, reply-said, delivery-said}
+use Rattle.lines.proofs.Digits.{width-most}
+use Rattle.benchline.proofs.Texts.{spaced-most, spaced-service, front-short, reply-said, delivery-said}
 use mathlib.Core.Path.{sym}
 use borrow.Author.Needs.{needs}
 use Rattle.benchline.proofs.put_verdict.Statement.{statement}
