@@ -2,6 +2,14 @@
 // limits in words.rt. `input` are the bytes that the line says. `out` is an untouched out buffer; the bytes that an answer spells stand at its front.
 // It assumes nothing of the line. No rule of the protocol stands here.
 ghost use Prim.Native.Nat.{_≤_};
+ghost use mathlib.Core.Path.{_≡_};
+ghost use lib.ListN.{length, take};
+ghost use Rattle.frame.specs.Read.{readOf};
+ghost use Rattle.frame.specs.Write.{wrote};
+ghost use Rattle.payload.specs.Walk.{payloadOf};
+ghost use Rattle.text.specs.Said.{Started, Appended};
+ghost use Rattle.driver.specs.Spelling.{Holds, numbersBy};
+ghost use Rattle.driver.specs.Answers.{headerNumbers, frameLine, readBy, headerOf, outgoingOf, wroteBy, writtenLine, filledOf, tagText, versionText, tagsText, payloadText, lineIn, lentOut, answerTo};
 use crate::output;
 use frame::Header;
 use frame::MessageId;
@@ -9,6 +17,7 @@ use frame::Reading;
 use frame::ServiceType;
 use frame::SessionId;
 use frame::Written;
+use output::ROOM;
 use payload::Payload;
 use payload::StringTag;
 use payload::Tags;
@@ -18,7 +27,7 @@ use words::Command;
 
 // version flag type service info session size id
 fn with_header(text: Text, header: Header) -> Text
-    ensures { λ r. ⌜ r .end ≤ 4096 ⌝ }
+    ensures { λ r. ⌜ Appended text (numbersBy 32 (headerNumbers header)) r ⌝ }
 {
     let mut after = text.number8(b' ', header.version);
     after = after.number(b' ', header.flag as u64);
@@ -32,7 +41,7 @@ fn with_header(text: Text, header: Header) -> Text
 
 // A frame whose payload of so many bytes stands at the front of the out buffer.
 fn frame_text(header: Header, consumed: usize, size: usize) -> Text
-    ensures { λ r. ⌜ r .end ≤ 4096 ⌝ }
+    ensures { λ r. ⌜ Holds (frameLine header consumed size) r ⌝ }
 {
     let text = with_header(Text::empty().byte(b'F'), header);
     text.number(b' ', consumed as u64).hex(size)
@@ -40,7 +49,8 @@ fn frame_text(header: Header, consumed: usize, size: usize) -> Text
 
 // read HEX
 fn read(input: &[u8], out: &mut [u8]) -> Text
-    ensures { λ r. ⌜ r .end ≤ 4096 ⌝ }
+    ensures { λ r. ⌜ Holds (readBy (now (input .entry)) (now (out .entry)) (readOf (now (input .entry))) .line) r ⌝ }
+    ensures { λ r. ⌜ now (out .exit) ≡ readBy (now (input .entry)) (now (out .entry)) (readOf (now (input .entry))) .out ⌝ }
 {
     let reading = frame::read(input);
     match reading {
@@ -53,7 +63,9 @@ fn read(input: &[u8], out: &mut [u8]) -> Text
     }
 }
 
-fn header_of(command: Command) -> Header {
+fn header_of(command: Command) -> Header
+    ensures { λ r. ⌜ r ≡ headerOf command ⌝ }
+{
     Header {
         version: command.byte(0),
         flag: command.byte(1) == 1,
@@ -66,7 +78,9 @@ fn header_of(command: Command) -> Header {
     }
 }
 
-fn outgoing_of(command: Command) -> Outgoing {
+fn outgoing_of(command: Command) -> Outgoing
+    ensures { λ r. ⌜ r ≡ outgoingOf command ⌝ }
+{
     Outgoing {
         version: command.byte(0),
         service: ServiceType(command.byte(1)),
@@ -78,7 +92,7 @@ fn outgoing_of(command: Command) -> Outgoing {
 
 // How many bytes a call wrote to `out`, CHECK of the whole of `out`, and the bytes written.
 fn written_text(written: Written, out: &[u8]) -> Text
-    ensures { λ r. ⌜ r .end ≤ 4096 ⌝ }
+    ensures { λ r. ⌜ Holds (writtenLine written (now (out .entry))) r ⌝ }
 {
     match written {
         Written::Bytes(count) => {
@@ -91,7 +105,9 @@ fn written_text(written: Written, out: &[u8]) -> Text
 
 // write version flag type service info session size id OUTLEN HEX
 // send version service session id chunk k OUTLEN HEX
-fn write(command: Command, input: &[u8], out: &mut [u8]) -> Written {
+fn write(command: Command, input: &[u8], out: &mut [u8]) -> Written
+    ensures { λ r. ⌜ wrote r (now (out .exit)) ≡ wroteBy command (now (input .entry)) (now (out .entry)) ⌝ }
+{
     if command.kind == words::WRITE {
         return frame::write(header_of(command), input, out);
     }
@@ -100,7 +116,7 @@ fn write(command: Command, input: &[u8], out: &mut [u8]) -> Written {
 
 // A name and a tag's number, or `-` where it is absent.
 fn with_tag(text: Text, name: &[u8], found: bool, value: u64) -> Text
-    ensures { λ r. ⌜ r .end ≤ 4096 ⌝ }
+    ensures { λ r. ⌜ Appended text (tagText (now (name .entry)) found value) r ⌝ }
 {
     let named = text.put(name);
     if found {
@@ -111,7 +127,7 @@ fn with_tag(text: Text, name: &[u8], found: bool, value: u64) -> Text
 
 // The version string's bytes, which may be none, or `-` where it is absent.
 fn version_text(version: StringTag, input: &[u8]) -> Text
-    ensures { λ r. ⌜ r .end ≤ 4096 ⌝ }
+    ensures { λ r. ⌜ Started (versionText version (now (input .entry))) r ⌝ }
 {
     let named = Text::empty().put(b"T version=");
     if version.found {
@@ -122,7 +138,7 @@ fn version_text(version: StringTag, input: &[u8]) -> Text
 
 // The tags behind the version.
 fn with_tags(text: Text, tags: Tags) -> Text
-    ensures { λ r. ⌜ r .end ≤ 4096 ⌝ }
+    ensures { λ r. ⌜ Appended text (tagsText tags) r ⌝ }
 {
     let hash = tags.hash;
     let mtu = tags.mtu;
@@ -133,7 +149,7 @@ fn with_tags(text: Text, tags: Tags) -> Text
 
 // payload HEX
 fn read_payload(input: &[u8]) -> Text
-    ensures { λ r. ⌜ r .end ≤ 4096 ⌝ }
+    ensures { λ r. ⌜ Started (payloadText (now (input .entry)) (payloadOf (now (input .entry)))) r ⌝ }
 {
     let payload = payload::read(input);
     match payload {
@@ -147,7 +163,8 @@ fn read_payload(input: &[u8]) -> Text
 
 // The answer to a command whose call takes an out buffer.
 fn filled_text(command: Command, input: &[u8], out: &mut [u8]) -> Text
-    ensures { λ r. ⌜ r .end ≤ 4096 ⌝ }
+    ensures { λ r. ⌜ Holds (filledOf command (now (input .entry)) (now (out .entry)) .line) r ⌝ }
+    ensures { λ r. ⌜ now (out .exit) ≡ filledOf command (now (input .entry)) (now (out .entry)) .out ⌝ }
 {
     if command.kind == words::READ {
         return read(input, out);
@@ -156,25 +173,37 @@ fn filled_text(command: Command, input: &[u8], out: &mut [u8]) -> Text
     written_text(written, out)
 }
 
-// Carries out a command that fills an out buffer and writes its answer. Answers whether that was taken.
-fn fill(command: Command, input: &[u8]) -> bool {
-    let mut out = output::untouched();
-    let lent = numbers::least(command.lent as usize, output::OUTLEN);
-    let text = filled_text(command, input, &mut out[0..lent]);
-    output::write(text, &out)
+// Carries out a command that fills an out buffer and spells its answer at the front of `line`. Answers how long that is.
+fn fill_into(command: Command, input: &[u8], out: &mut [u8], line: &mut [u8; ROOM]) -> usize
+    requires { ⌜ length (now out) ≤ 131084 ⌝ }
+    ensures { λ r. ⌜ take r (now (line .exit)) ≡ lineIn (filledOf command (now (input .entry)) (now (out .entry))) ⌝ }
+{
+    let text = filled_text(command, input, out);
+    output::lay(text, out, line)
 }
 
-// Carries out a command and writes its answer. Answers whether that was taken.
-pub fn obey(command: Command, input: &[u8]) -> bool {
+// The same with an untouched out buffer.
+fn fill(command: Command, input: &[u8], line: &mut [u8; ROOM]) -> usize
+    ensures { λ r. ⌜ take r (now (line .exit)) ≡ lineIn (filledOf command (now (input .entry)) (lentOut command)) ⌝ }
+{
+    let mut out = output::untouched();
+    let lent = numbers::least(command.lent as usize, output::OUTLEN);
+    fill_into(command, input, &mut out[0..lent], line)
+}
+
+// Carries out a command and spells its answer at the front of `line`. Answers how long that is.
+pub fn obey(command: Command, input: &[u8], line: &mut [u8; ROOM]) -> usize
+    ensures { λ r. ⌜ take r (now (line .exit)) ≡ answerTo command (now (input .entry)) ⌝ }
+{
     let kind = command.kind;
     if kind == words::SILENT {
-        return true;
+        return 0;
     }
     if kind == words::PAYLOAD {
-        return output::write_plain(read_payload(input));
+        return output::lay_plain(read_payload(input), line);
     }
     if (kind == words::READ) | (kind == words::WRITE) | (kind == words::SEND) {
-        return fill(command, input);
+        return fill(command, input, line);
     }
-    output::write_plain(Text::empty().byte(b'?'))
+    output::lay_plain(Text::empty().byte(b'?'), line)
 }

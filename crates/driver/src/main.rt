@@ -1,13 +1,19 @@
 // The driver: reads lines from standard input and answers each on standard output, as docs/DRIVER.md says.
 // This file holds the buffers and the gathering of lines. It assumes nothing of the input: bytes of any kind and any number.
-// The library `words` reads a line's words; commands.rt and calls.rt make the calls; the library `text` and sessions.rt spell the answers, output.rt writes them.
+// The library `words` reads a line's words; commands.rt and calls.rt make the calls; the library `text`, sessions.rt and output.rt spell the answers.
 mod calls;
 mod commands;
 mod output;
 mod sessions;
 
+ghost use mathlib.Core.Path.{_≡_};
+ghost use Rattle.words.specs.Lines.{leaving};
+ghost use Rattle.driver.specs.Turns.{left, turnOf};
+ghost use Rattle.driver.specs.Input.{gathered, partTaken, begunOf, noInput, readInto, stepOf, lineLength, spokenLine};
+use calls::Turn;
 use calls::Unit;
 use libc::STDIN_FILENO;
+use output::ROOM;
 use words::Command;
 
 // A line of 300,000 bytes, and one byte more to tell a longer one.
@@ -41,7 +47,9 @@ fn content_buffer() -> [u8; CONTENT] {
 }
 
 // Reads once. The last line may lack its newline: it is whole where the input ends.
-fn read_piece(mut input: Input, piece: &mut [u8]) -> Input {
+fn read_piece(mut input: Input, piece: &mut [u8]) -> Input
+    ensures { λ r. ⌜ r ≡ readInto input (r .count) ⌝ }
+{
     let got = libc::read(STDIN_FILENO, piece);
     let count = io::count(got, piece);
     input.count = count;
@@ -52,7 +60,9 @@ fn read_piece(mut input: Input, piece: &mut [u8]) -> Input {
 }
 
 // What the piece still has of a line goes behind what is gathered.
-fn take_part(mut input: Input, piece: &[u8], line: &mut [u8]) -> Input {
+fn take_part(mut input: Input, piece: &[u8], line: &mut [u8]) -> Input
+    ensures { λ r. ⌜ gathered r (now (line .exit)) ≡ partTaken input (now (piece .entry)) (now (line .entry)) ⌝ }
+{
     let at = numbers::least(input.at, piece.len());
     let end = bytes::scan::find(piece, at, piece.len(), b'\n');
     input.filled = text::put(line, input.filled, &piece[at..end]);
@@ -62,7 +72,9 @@ fn take_part(mut input: Input, piece: &[u8], line: &mut [u8]) -> Input {
 }
 
 // Behind a whole line the next one begins.
-fn begun(mut input: Input) -> Input {
+fn begun(mut input: Input) -> Input
+    ensures { λ r. ⌜ r ≡ begunOf input ⌝ }
+{
     if input.ended {
         input.filled = 0;
     }
@@ -70,7 +82,9 @@ fn begun(mut input: Input) -> Input {
 }
 
 // One step on: a part of a line from the piece, or another piece.
-fn step(input: Input, piece: &mut [u8; PIECE], line: &mut [u8; LINE]) -> Input {
+fn step(input: Input, piece: &mut [u8; PIECE], line: &mut [u8; LINE]) -> Input
+    ensures { λ r. ⌜ gathered r (now (line .exit)) ≡ stepOf input (now (piece .entry)) (now (line .entry)) (r .count) ⌝ }
+{
     if input.at < input.count {
         return take_part(input, text::front(piece, input.count), line);
     }
@@ -78,7 +92,9 @@ fn step(input: Input, piece: &mut [u8; PIECE], line: &mut [u8; LINE]) -> Input {
 }
 
 // How much of the line buffer is a line: nothing while it is not whole. Of a line that is too long only the first byte is left, which is no command.
-fn line_length(input: Input) -> usize {
+fn line_length(input: Input) -> usize
+    ensures { λ r. ⌜ r ≡ lineLength input ⌝ }
+{
     if input.ended {
         if input.filled < LINE {
             return input.filled;
@@ -89,44 +105,66 @@ fn line_length(input: Input) -> usize {
 }
 
 // What the line says. Its last word's bytes go to the front of `content`.
-fn command_of(input: Input, line: &[u8; LINE], content: &mut [u8; CONTENT]) -> Command {
+fn command_of(input: Input, line: &[u8; LINE], content: &mut [u8; CONTENT]) -> Command
+    ensures { λ r. ⌜ leaving r (now (content .exit)) ≡ spokenLine input (now (line .entry)) (now (content .entry)) ⌝ }
+{
     words::command_of(text::front(line, line_length(input)), content)
 }
 
-// Carries out a command and writes its answer. Its last word's bytes stand at the front of `content`.
-fn obey(mut unit: Unit, command: Command, content: &[u8; CONTENT], pool: &mut [u8; PIECE]) -> Unit {
+// Carries out a command and spells its answer at the front of `line`. Its last word's bytes stand at the front of `content`.
+fn obey(
+    unit: Unit,
+    command: Command,
+    content: &[u8; CONTENT],
+    pool: &mut [u8; PIECE],
+    line: &mut [u8; ROOM],
+) -> Turn
+    ensures { λ r. ⌜ left r (now (pool .exit)) (now (line .exit)) ≡ turnOf unit command (now (content .entry)) (now (pool .entry)) ⌝ }
+{
     let input = text::front(content, command.count);
     let kind = command.kind;
     if kind == words::NEW {
-        return calls::new(command, pool);
+        return calls::new(command, pool, line);
     }
-    if (kind == words::CALL) & unit.open {
+    if (kind == words::CALL) & unit.linked {
         let link = unit.link;
-        return calls::call(link, command, input, pool);
+        return calls::call(link, command, input, pool, line);
     }
-    unit.taken = commands::obey(command, input);
-    unit
+    let count = commands::obey(command, input, line);
+    Turn { unit, count }
 }
 
-// A proved loop has to end, and nothing says that the input does. So the turns are counted down, from a number that no run uses up.
-fn main() {
-    let mut piece = io::large_buffer();
-    let mut line = line_buffer();
-    let mut content = content_buffer();
-    let mut pool = io::large_buffer();
-    let mut input = Input {
+// Before the first piece nothing is at hand.
+fn begin() -> Input
+    ensures { λ r. ⌜ r ≡ noInput ⌝ }
+{
+    Input {
         count: 0,
         at: 0,
         filled: 0,
         ended: false,
         more: true,
-    };
+    }
+}
+
+// A proved loop has to end, and nothing says that the input does. So the turns are counted down, from a number that no run uses up.
+// After a write that failed nothing more is read or written.
+fn main() {
+    let mut piece = io::large_buffer();
+    let mut line = line_buffer();
+    let mut content = content_buffer();
+    let mut pool = io::large_buffer();
+    let mut answer = output::line_buffer();
+    let mut input = begin();
     let mut unit = calls::no_unit();
+    let mut taken = true;
     let mut turns = u64::MAX;
-    while turns > 0 && (input.more & unit.taken) {
+    while turns > 0 && (input.more & taken) {
         input = step(begun(input), &mut piece, &mut line);
         let command = command_of(input, &line, &mut content);
-        unit = obey(unit, command, &content, &mut pool);
+        let turn = obey(unit, command, &content, &mut pool, &mut answer);
+        taken = output::write(&answer, turn.count);
+        unit = turn.unit;
         turns -= 1;
     }
 }

@@ -1,4 +1,12 @@
-// The out buffer that is lent to a call, and the writing of answers. It assumes nothing.
+// The out buffer that is lent to a call, and the line that an answer makes. It assumes nothing.
+ghost use Prim.Native.Nat.{_+_, _*_, _≤_};
+ghost use mathlib.Core.Path.{_≡_};
+ghost use mathlib.Core.List.{[]};
+ghost use lib.ListN.{length, take};
+ghost use Rattle.lines.specs.Hex.{hexOf};
+ghost use Rattle.payload.specs.Append.{Appended};
+ghost use Rattle.driver.specs.Spelling.{textLine};
+ghost use Rattle.driver.specs.Answers.{untouchedOut};
 use libc::STDOUT_FILENO;
 use lines::Encoded;
 use text::Text;
@@ -6,52 +14,53 @@ use text::Text;
 // The longest out buffer.
 pub const OUTLEN: usize = 131084;
 
+// A text of 4,096 characters, and two digits for each byte of an out buffer.
+pub const ROOM: usize = 266264;
+
 // Every byte of an out buffer is EE hex before a call, so that CHECK shows which ones the call wrote.
-pub fn untouched() -> [u8; OUTLEN] {
+pub fn untouched() -> [u8; OUTLEN]
+    ensures { λ r. ⌜ r ≡ untouchedOut ⌝ }
+{
     [0xee; OUTLEN]
 }
 
-// Two digits for each of its bytes.
-fn digits_buffer() -> [u8; 262168] {
-    [0; 262168]
+pub fn line_buffer() -> [u8; ROOM] {
+    [0; ROOM]
 }
 
-// Writes bytes in hexadecimal.
-fn write_digits(bytes: &[u8]) -> bool {
-    let mut digits = digits_buffer();
-    match lines::bytes_to_hex(bytes, &mut digits) {
-        Encoded::Chars(count) => io::write_all(STDOUT_FILENO, text::front(&digits, count)),
-        Encoded::Full => true,
+// Bytes in hexadecimal into a buffer from a place on. Answers where they end.
+fn lay_digits(line: &mut [u8], at: usize, bytes: &[u8]) -> usize
+    requires { ⌜ at + 2 * length (now bytes) ≤ length (now line) ⌝ }
+    ensures { λ r. ⌜ Appended at (hexOf (now (bytes .entry))) (now (line .entry)) r (now (line .exit)) ⌝ }
+{
+    match lines::bytes_to_hex(bytes, &mut line[at..]) {
+        Encoded::Chars(count) => at + count,
+        Encoded::Full => at,
     }
 }
 
-// Writes what stands before a place in a text, bytes in hexadecimal, and what stands behind the place. After a write that failed nothing more is written.
-fn write_parts(text: &[u8], cut: usize, bytes: &[u8]) -> bool {
-    if io::write_all(STDOUT_FILENO, text::front(text, cut)) {
-        if write_digits(bytes) {
-            return io::write_all(STDOUT_FILENO, text::part(text, cut, text.len()));
-        }
-    }
-    false
+// An answer as a line at the front of `line`; the bytes that it spells stand at the front of `out`. Answers how long the line is.
+pub fn lay(answer: Text, out: &[u8], line: &mut [u8; ROOM]) -> usize
+    requires { ⌜ length (now out) ≤ 131084 ⌝ }
+    ensures { λ r. ⌜ take r (now (line .exit)) ≡ textLine answer (now (out .entry)) ⌝ }
+{
+    let ended = answer.byte(b'\n');
+    let chars = ended.chars;
+    let said = text::front(&chars, ended.end);
+    let before = text::put(line, 0, text::front(said, ended.cut));
+    let digits = lay_digits(line, before, text::front(out, ended.size));
+    text::put(line, digits, text::part(said, ended.cut, said.len()))
 }
 
-// Writes an answer that spells no bytes as a line. Answers whether all of it was taken.
-pub fn write_plain(answer: Text) -> bool {
-    let line = answer.byte(b'\n');
-    let chars = line.chars;
-    io::write_all(STDOUT_FILENO, text::front(&chars, line.end))
+// The same for an answer that spells no bytes.
+pub fn lay_plain(answer: Text, line: &mut [u8; ROOM]) -> usize
+    ensures { λ r. ⌜ take r (now (line .exit)) ≡ textLine answer [] ⌝ }
+{
+    let none = [0u8; 0];
+    lay(answer, &none, line)
 }
 
-// The same for any answer; the bytes that it spells stand at the front of `out`.
-pub fn write(answer: Text, out: &[u8; OUTLEN]) -> bool {
-    if answer.size == 0 {
-        return write_plain(answer);
-    }
-    let line = answer.byte(b'\n');
-    let chars = line.chars;
-    write_parts(
-        text::front(&chars, line.end),
-        line.cut,
-        text::front(out, line.size),
-    )
+// Writes a line of so many characters. Answers whether all of it was taken.
+pub fn write(line: &[u8; ROOM], count: usize) -> bool {
+    io::write_all(STDOUT_FILENO, text::front(line, count))
 }

@@ -4,17 +4,23 @@
 // by the link.
 // It writes how many calls were accepted. It assumes nothing of the input: what is missing is left out.
 ghost use mathlib.Core.Path.{_≡_};
-ghost use Prim.Native.Nat.{_+_, _≤_, min, max};
+ghost use Rattle.text.specs.Said.{said};
+ghost use Rattle.pace.specs.Pace.{isAccepted, countedOf, offered, behindOf, nextOf, placesIn, left as leftBy, runFrom, beginning, served, servedOf, lineOf, answerOf};
 use libc::STDIN_FILENO;
 use libc::STDOUT_FILENO;
-use lines::Encoded;
 use link::Answer;
 use link::Grant;
 use link::Link;
 use payload::version::Version;
+use text::Text;
 
 // The script's longest length.
 const LONGEST: usize = 300000;
+
+const POOL: usize = 65536;
+
+// The link's out buffer.
+const OUT: usize = 65536;
 
 // What is carried from one call to the next.
 struct Run {
@@ -24,7 +30,7 @@ struct Run {
 
 // The next place of `size` bytes, at least one, within a length.
 fn behind(at: usize, size: usize, length: usize) -> usize
-    ensures { λ r. ⌜ r ≡ min (at + max size 1) length ⌝ }
+    ensures { λ r. ⌜ r ≡ behindOf at size length ⌝ }
 {
     if length <= at {
         return length;
@@ -38,7 +44,10 @@ fn behind(at: usize, size: usize, length: usize) -> usize
     at + size
 }
 
-fn is_accepted(answer: Answer) -> bool {
+// Neither too short nor refused.
+fn is_accepted(answer: Answer) -> bool
+    ensures { λ r. ⌜ r ≡ isAccepted answer ⌝ }
+{
     match answer {
         Answer::Short(_) => false,
         Answer::Refused(_) => false,
@@ -51,7 +60,9 @@ fn is_accepted(answer: Answer) -> bool {
 }
 
 // What each call offers.
-fn offer() -> Grant {
+fn offer() -> Grant
+    ensures { λ r. ⌜ r ≡ offered ⌝ }
+{
     Grant {
         guarantee: 0,
         cap: 256,
@@ -59,13 +70,15 @@ fn offer() -> Grant {
     }
 }
 
-fn counted(accepted: u64, answer: Answer) -> u64 {
+fn counted(accepted: u64, answer: Answer) -> u64
+    ensures { λ r. ⌜ r ≡ countedOf accepted answer ⌝ }
+{
     std::num::wrapping_add_u64(accepted, is_accepted(answer) as u64)
 }
 
 // The place behind one, and the first again behind the last.
 fn next(at: usize, size: usize, length: usize) -> usize
-    ensures { λ r. ⌜ r ≤ length ⌝ }
+    ensures { λ r. ⌜ r ≡ nextOf at size length ⌝ }
 {
     let place = behind(at, size, length);
     if place < length { place } else { 0 }
@@ -79,7 +92,9 @@ fn go_over(
     size: usize,
     pool: &mut [u8],
     out: &mut [u8],
-) -> Run {
+) -> Run
+    ensures { λ r. ⌜ leftBy r (now (pool .exit)) (now (out .exit)) ≡ runFrom calls (now (places .entry)) size 0 (leftBy run (now (pool .entry)) (now (out .entry))) ⌝ }
+{
     let mut link = run.link;
     let mut accepted = run.accepted;
     let mut left = calls;
@@ -96,14 +111,19 @@ fn go_over(
 }
 
 // How many whole places a length has.
-fn count_places(length: usize, size: usize) -> usize {
+fn count_places(length: usize, size: usize) -> usize
+    ensures { λ r. ⌜ r ≡ placesIn length size ⌝ }
+{
     if size == 0 {
         return 0;
     }
     length / size
 }
 
-fn start() -> Run {
+// Before the first call.
+fn start() -> Run
+    ensures { λ r. ⌜ r ≡ beginning ⌝ }
+{
     let version = Version {
         major: 5,
         minor: 4,
@@ -115,7 +135,9 @@ fn start() -> Run {
 }
 
 // The beginning once, then as many calls with the rest as asked for.
-fn serve(script: &[u8], pool: &mut [u8], out: &mut [u8]) -> u64 {
+fn serve(script: &[u8], pool: &mut [u8], out: &mut [u8]) -> u64
+    ensures { λ r. ⌜ served r (now (pool .exit)) (now (out .exit)) ≡ servedOf (now (script .entry)) (now (pool .entry)) (now (out .entry)) ⌝ }
+{
     let size = numbers::be4(script, 0) as usize;
     let first = numbers::least(numbers::be4(script, 4) as usize, LONGEST);
     let again = numbers::least(numbers::be4(script, 8) as usize, LONGEST);
@@ -129,29 +151,29 @@ fn serve(script: &[u8], pool: &mut [u8], out: &mut [u8]) -> u64 {
     run.accepted
 }
 
-// The first bytes of a slice, all of them where it has fewer.
-fn front(whole: &[u8], count: usize) -> &[u8] {
-    let end = numbers::least(count, whole.len());
-    &whole[0..end]
+// A number and a newline.
+fn spell(number: u64) -> Text
+    ensures { λ r. ⌜ said r ≡ lineOf number ⌝ }
+{
+    Text::empty().decimal(number).byte(b'\n')
 }
 
-// A number and a newline.
-fn report(number: u64) {
-    let mut text = [b'\n'; 21];
-    match lines::number_to_decimal(number, &mut text) {
-        Encoded::Chars(digits) => {
-            let end = behind(digits, 1, 21);
-            io::write_all(STDOUT_FILENO, front(&text, end));
-        }
-        Encoded::Full => (),
-    }
+// What is written for a script.
+fn answer(script: &[u8]) -> Text
+    ensures { λ r. ⌜ said r ≡ answerOf (now (script .entry)) ⌝ }
+{
+    let mut pool = [0u8; POOL];
+    let mut out = [0u8; OUT];
+    spell(serve(script, &mut pool, &mut out))
+}
+
+fn report(text: Text) {
+    let chars = text.chars;
+    io::write_all(STDOUT_FILENO, text::front(&chars, text.end));
 }
 
 fn main() {
     let mut script = [0u8; LONGEST];
-    let mut pool = [0u8; 65536];
-    let mut out = [0u8; 65536];
     let count = io::read_full(STDIN_FILENO, &mut script);
-    let accepted = serve(&script[..count], &mut pool, &mut out);
-    report(accepted);
+    report(answer(&script[..count]));
 }

@@ -1,2 +1,2 @@
 pub mod Lists
-mod Texts
+pub mod Texts

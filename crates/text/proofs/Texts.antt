@@ -1,28 +1,31 @@
 -- Texts put together piece by piece: a piece behind a text, two pieces as one, and what a writer of `lines` hands on. By the laws of take, drop and append,
 -- and by induction over the digits of a number. Assumes nothing.
-use Prim.Native.Nat.{ℕ, zero, suc, _+_, _-_, _*_, _/_, _%_, _^_, _≤_, _<_, min}
+use Prim.Native.Nat.{ℕ, zero, suc, _+_, _-_, _*_, _%_, _^_, _≤_, _<_, min}
 use mathlib.Core.Path.{_≡_, refl, ap, _∙_, sym, subst}
 use mathlib.Core.Bool.{Bool}
 use mathlib.Core.List.{List, [], _∷_, _++_, append-nil, append-assoc}
 use native.Mathlib.Omega.{arith}
-use native.Mathlib.Nat.{pow-suc}
-use lib.Dec.{leb, ltb}
+use lib.Dec.{leb}
 use lib.ListN.{length, take, drop, length-take}
 use lib.Seq.{take-all, take-append-seam}
-use borrow.Author.Tests.{ltb-true, ltb-false, leb-true, leb-false, le-ltb, lt-ltb}
+use borrow.Author.Tests.{leb-true, leb-false, le-ltb, lt-ltb}
 use Rattle.numbers.specs.Bytes.{pick, laid}
 use Rattle.lines.specs.declared.Encoded.{Encoded}
 use Rattle.lines.specs.declared.Encoded.the-variants.{Chars, Full}
 use Rattle.lines.specs.Text.{Encoding, encoded, writtenOf}
 use Rattle.lines.specs.Decimal.{decimalOf}
 use Rattle.numbers.proofs.Choices.{split}
-use Rattle.lines.proofs.Digits.{width-one, width-step}
+use Rattle.lines.proofs.Digits.{width-most}
 use Rattle.text.specs.declared.Text.{Text}
 use Rattle.text.specs.Said.{said, Started, Appended, Marked}
 use Rattle.text.specs.Pieces.{fitting, putInto, countOf, checkFrom}
 use Rattle.text.proofs.Lists.{take-min, put-front}
 use lib.Seq.{drop-cons}
 use lib.ListN.{getD, drop-of-length-le}
+
+-- a front ends where it is long, unless there is less
+pub front-ends : {n : ℕ} (s : List ℕ) → n ≤ length s → n ≡ length (take n s)
+front-ends {n} s h = omega (arith, length-take n s)
 
 -- a text's characters c, of which the first e are said
 module _ (c : List ℕ) (l : length c ≡ 4096) (e : ℕ) where
@@ -40,7 +43,7 @@ module _ (c : List ℕ) (l : length c ≡ 4096) (e : ℕ) where
       ap (λ (i : ℕ). take i c) z ∙ take-min e c ∙ sym (ap (take 4096) (append-nil (take e c)) ∙ take-all 4096 (take e c) m)
 
 -- what was cut once is cut no more
-cut-twice : (n : ℕ) (a b : List ℕ) → take n (take n a ++ b) ≡ take n (a ++ b)
+pub cut-twice : (n : ℕ) (a b : List ℕ) → take n (take n a ++ b) ≡ take n (a ++ b)
 cut-twice zero a b = refl
 cut-twice (suc n) [] b = refl
 cut-twice (suc n) (x ∷ a) b = ap (λ (t : List ℕ). x ∷ t) (cut-twice n a b)
@@ -52,6 +55,7 @@ module _ {u r : Text} {a b : List ℕ} where
       record {
         says = g .says ∙ ap (λ (s : List ℕ). take 4096 (s ++ b)) (f .says) ∙ cut-twice 4096 (said t ++ a) b ∙ ap (take 4096) (append-assoc (said t) a b);
         within = g .within;
+        ends = g .ends;
         cut = g .cut ∙ f .cut;
         size = g .size ∙ f .size;
       }
@@ -61,6 +65,7 @@ module _ {u r : Text} {a b : List ℕ} where
       record {
         says = g .says ∙ ap (λ (s : List ℕ). take 4096 (s ++ b)) (f .says) ∙ cut-twice 4096 a b;
         within = g .within;
+        ends = g .ends;
         cut = g .cut ∙ f .cut;
         size = g .size ∙ f .size;
       }
@@ -70,6 +75,7 @@ module _ {u r : Text} {a b : List ℕ} where
       record {
         says = g .says ∙ ap (λ (s : List ℕ). take 4096 (s ++ b)) (f .says) ∙ cut-twice 4096 (said t ++ a) b ∙ ap (take 4096) (append-assoc (said t) a b);
         within = g .within;
+        ends = g .ends;
         cut = g .cut;
         size = g .size;
       }
@@ -77,14 +83,6 @@ module _ {u r : Text} {a b : List ℕ} where
 -- the same piece by another name
 pub renamed : {t r : Text} {a b : List ℕ} → a ≡ b → Appended t a r → Appended t b r
 renamed {t} {r} e f = subst (λ (s : List ℕ). Appended t s r) e f
-
--- a number below ten to the n + 1 has at most n + 1 digits
-width-most : (n k : ℕ) → k < 10 ^ suc n → length (decimalOf k) ≤ suc n
-width-most zero k h = omega (arith, width-one k (omega arith))
-width-most (suc n) k h =
-    split (ltb k 10) (λ e. omega (arith, width-one k (ltb-true k 10 e))) λ e.
-    let less : k / 10 < 10 ^ suc n = omega (arith, pow-suc 10 (suc n)) in
-    omega (arith, width-step k (ltb-false k 10 e), width-most n (k / 10) less)
 
 -- what a writer of `lines` put to the front of a buffer, and how many characters it says these are
 module _ (d o : List ℕ) {a : Encoded} {r : List ℕ} (e : encoded a r ≡ writtenOf d o) {n : ℕ} (h : n ≡ countOf a) where

@@ -2,7 +2,7 @@
 use Prim.Native.Nat.{ℕ, _≤_}
 use mathlib.Core.Path.{_≡_}
 use mathlib.Core.List.{List, _++_}
-use lib.ListN.{take}
+use lib.ListN.{length, take}
 use Rattle.text.specs.declared.Text.{Text}
 
 -- the characters before its end
@@ -13,6 +13,7 @@ said t = take (t .end) (t .chars)
 pub record Started (piece : List ℕ) (r : Text) : Type 0 where
   pub says : said r ≡ take 4096 piece
   pub within : r .end ≤ 4096
+  pub ends : r .end ≡ length (said r)
   pub cut : r .cut ≡ 0
   pub size : r .size ≡ 0
 
@@ -20,6 +21,7 @@ pub record Started (piece : List ℕ) (r : Text) : Type 0 where
 pub record Appended (t : Text) (piece : List ℕ) (r : Text) : Type 0 where
   pub says : said r ≡ take 4096 (said t ++ piece)
   pub within : r .end ≤ 4096
+  pub ends : r .end ≡ length (said r)
   pub cut : r .cut ≡ t .cut
   pub size : r .size ≡ t .size
 
@@ -27,5 +29,6 @@ pub record Appended (t : Text) (piece : List ℕ) (r : Text) : Type 0 where
 pub record Marked (t : Text) (piece : List ℕ) (count : ℕ) (r : Text) : Type 0 where
   pub says : said r ≡ take 4096 (said t ++ piece)
   pub within : r .end ≤ 4096
+  pub ends : r .end ≡ length (said r)
   pub cut : r .cut ≡ r .end
   pub size : r .size ≡ count

@@ -4,7 +4,7 @@ use Prim.Native.Nat.{ℕ, min}
 use mathlib.Core.Path.{_≡_, refl, ap, _∙_, sym}
 use native.Mathlib.Omega.{arith}
 use lib.ListN.{length, length-map, take}
-use Rattle.text.proofs.Texts.{put-said}
+use Rattle.text.proofs.Texts.{front-ends, put-said}
 use borrow.Author.Needs.{needs}
 use Rattle.text.proofs.Text.put.Statement.{statement}
 use Rattle.text.proofs.Text.put.Tie as tie
@@ -19,6 +19,7 @@ returns c =
     record {
       says = ap (take (c .least .result)) (q .1 .1) ∙ put-said (t .chars) l (t .end) s e;
       within = omega (arith, c .least .ensures);
+      ends = front-ends _ (omega (arith, c .least .ensures, q .1 .0));
       cut = refl;
       size = refl;
     }

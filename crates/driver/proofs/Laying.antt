@@ -1,0 +1,65 @@
+-- A line laid into its buffer piece by piece: the characters before the digits, the digits, and the characters behind them. By the laws of take, drop and
+-- append. Assumes nothing.
+use Prim.Native.Nat.{ℕ, _+_, _-_, _*_, _≤_, min}
+use mathlib.Core.Path.{_≡_, refl, ap, _∙_}
+use mathlib.Core.List.{List, [], _∷_, _++_}
+use native.Mathlib.Omega.{arith}
+use lib.ListN.{length, take, drop, length-take, length-drop}
+use lib.Seq.{take-all, take-append-seam}
+use Rattle.numbers.specs.Bytes.{part}
+use Rattle.lines.specs.Hex.{hexOf}
+use Rattle.lines.proofs.Characters.{length-hex}
+use Rattle.payload.specs.Append.{Appended}
+use Rattle.payload.proofs.Appends.{more}
+use Rattle.text.specs.Pieces.{fitting, putInto}
+use Rattle.text.specs.declared.Text.{Text}
+use Rattle.text.specs.Said.{said, Appended as Longer}
+use Rattle.driver.specs.Spelling.{textLine}
+
+-- `text::put` puts all of d into a buffer, from at on, where there is room
+module _ (d o : List ℕ) (at : ℕ) (room : at + length d ≤ length o) where
+  pub all-put : {n : ℕ} {q : List ℕ} → n ≡ min at (length o) + length (fitting o at d) → q ≡ putInto o at d → Appended at d o n q
+  all-put {n} {q} e f =
+      let t : fitting o at d ≡ d = take-all (length o - at) d (omega arith) in
+      record { ends = omega (arith, e, ap length t); puts = f ∙ rw t }
+
+-- what stands at the front of a buffer
+pub laid-front : {d o q : List ℕ} {n : ℕ} → Appended 0 d o n q → take n q ≡ d
+laid-front {d} {o} {q} {n} e =
+    let z : n ≡ length d = omega (arith, e .ends) in
+    rw (z, e .puts) (take-append-seam d (drop (0 + length d) o))
+
+-- the three pieces of a line: the text e is the answer t with its newline, s its characters; the digits of the first bytes of out stand behind the first
+-- `cut` of them
+module _ {t e : Text} (ended : Longer t (10 ∷ []) e) (out line : List ℕ) (few : length out ≤ 131084) (room : length line ≡ 266264) {s : List ℕ} (all : s ≡ said e) where
+  short : length s ≤ 4096
+  short = omega (arith, ap length all, ended .ends, ended .within)
+
+  -- the characters before the digits
+  module _ {a : List ℕ} (front : a ≡ take (e .cut) s) where
+    first-short : length a ≤ length s
+    first-short = omega (arith, ap length front, length-take (e .cut) s)
+
+    first-fits : 0 + length a ≤ length line
+    first-fits = omega (arith, first-short, short)
+
+    pub first-put : {n : ℕ} {p : List ℕ} → n ≡ min 0 (length line) + length (fitting line 0 a) → p ≡ putInto line 0 a → Appended 0 a line n p
+    first-put f g = all-put a line 0 first-fits f g
+
+    -- the bytes that are spelled
+    module _ {b : List ℕ} (spelled : b ≡ take (e .size) out) {n : ℕ} {p : List ℕ} (kept : length p ≡ length line) (first : Appended 0 a line n p) where
+      spelled-few : length b ≤ 131084
+      spelled-few = omega (arith, ap length spelled, length-take (e .size) out)
+
+      pub digits-fit : n + 2 * length b ≤ length p
+      digits-fit = omega (arith, first .ends, first-short, short, spelled-few)
+
+      -- the characters behind them
+      pub line-laid : {m r : ℕ} {q w d : List ℕ} → length q ≡ length p → Appended n (hexOf b) p m q → d ≡ part s (e .cut) (length s)
+          → r ≡ min m (length q) + length (fitting q m d) → w ≡ putInto q m d → take r w ≡ textLine t out
+      line-laid {m} {r} {q} {w} {d} k digits behind f g =
+          let rest : d ≡ drop (e .cut) s = behind ∙ take-all (length s) (drop (e .cut) s) (omega (arith, length-drop (e .cut) s)) in
+          let room-d : m + length d ≤ length q = omega (arith, first .ends, digits .ends, ap length front, ap length rest, length-take (e .cut) s, length-drop (e .cut) s, length-hex b, spelled-few, short) in
+          let room-b : n + length (hexOf b) ≤ length p = omega (arith, digits-fit, length-hex b) in
+          let whole = laid-front (more a (hexOf b ++ d) first-fits first (more (hexOf b) d room-b digits (all-put d q m room-d f g))) in
+          whole ∙ rw (front, rest, spelled, all, ended .cut, ended .size, ended .says) refl

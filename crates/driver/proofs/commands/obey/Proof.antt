@@ -1,0 +1,45 @@
+-- `driver::commands::obey` meets its contract, by the command's kind.
+-- Assumes nothing.
+use mathlib.Core.Path.{refl, _∙_}
+use mathlib.Core.List.{[]}
+use borrow.Author.Tests.{eq-eqb, ne-eqb}
+use Rattle.driver.specs.Answers.{answerTo}
+use Rattle.text.proofs.Texts.{started}
+use Rattle.driver.proofs.Spelling.{held, line-held}
+use borrow.Author.Needs.{needs}
+use Rattle.driver.proofs.commands.obey.Statement.{statement}
+use Rattle.driver.proofs.commands.obey.Tie as tie
+
+returns : tie.Need-returns
+unfolding answerTo
+returns c = rw (eq-eqb (c .before .before .args .command .kind) 7 (c .if1 .taken)) refl
+
+returns-2 : tie.Need-returns-2
+unfolding answerTo
+returns-2 c =
+    let k = c .before .before .before .before .before .before .args .command .kind in
+    rw (ne-eqb k 7 (c .before .before .before .before .if1 .left), eq-eqb k 4 (c .before .before .before .if2 .taken)) (c .lay-plain .ensures ∙ line-held (held (c .before .before .read-payload .ensures)) [])
+
+returns-3 : tie.Need-returns-3
+unfolding answerTo
+returns-3 c =
+    let k = c .before .before .before .before .before .before .args .command .kind in
+    rw (ne-eqb k 7 (c .before .before .before .before .if1 .left), ne-eqb k 4 (c .before .before .before .if2 .left), (c .before .before .if3 .taken)) (c .fill .ensures)
+
+returns-4 : tie.Need-returns-4
+unfolding answerTo
+returns-4 c =
+    let k = c .before .before .before .before .before .before .before .before .args .command .kind in
+    rw (ne-eqb k 7 (c .before .before .before .before .before .before .if1 .left), ne-eqb k 4 (c .before .before .before .before .before .if2 .left), (c .before .before .before .before .if3 .left)) (c .lay-plain2 .ensures ∙ line-held (held (started (c .before .before .before .empty .ensures) (c .before .before .byte .ensures))) [])
+
+pub obey-spec : {M : Type 1} → statement M
+obey-spec =
+    tie.close
+    (tie.spec
+    returns
+    (λ c κs. search needs) (λ c κs. search needs)  -- read-payload-requires, lay-plain-requires
+    returns-2
+    (λ c κs. search needs)  -- fill-requires
+    returns-3
+    (λ c κs. search needs) (λ c κs. search needs) (λ c κs. search needs)  -- empty-requires, byte-requires, lay-plain-requires-2
+    returns-4)

@@ -1,0 +1,146 @@
+-- What the benchmark's program answers: places gone over call by call, how many calls were accepted, and all that a script of such calls leaves.
+-- What the system reads and writes is in no contract of the kit: of that the definitions say nothing. Assumes nothing.
+use Prim.Native.Nat.{ℕ, zero, suc, _+_, _/_, _%_, _^_, min, max}
+use mathlib.Core.Bool.{Bool, true, false}
+use mathlib.Core.List.{List, [], _∷_, _++_}
+use lib.Dec.{eqb, ltb}
+use lib.ListN.{length, drop, replicate}
+use Rattle.numbers.specs.Bytes.{pick, part}
+use Rattle.numbers.specs.Numbers.{valueBe}
+use Rattle.lines.specs.Decimal.{decimalOf}
+use Rattle.payload.specs.declared.version.Version.{Version}
+use Rattle.link.specs.declared.Link.{Link}
+use Rattle.link.specs.declared.Grant.{Grant}
+use Rattle.link.specs.declared.Answer.{Answer}
+use Rattle.link.specs.declared.Answer.the-variants as answer
+use Rattle.link.specs.Call.{After, callOf}
+use Rattle.headunit.specs.Unit.{creationOf}
+use Rattle.pace.specs.declared.Run.{Run}
+
+-- ---- one call
+
+-- a call that was neither too short nor refused
+abbrev pub isAccepted : Answer → Bool
+isAccepted (answer.Short n) = false
+isAccepted (answer.Refused n) = false
+isAccepted (answer.Acked n m) = true
+isAccepted (answer.Nacked n m) = true
+isAccepted (answer.Beat n m) = true
+isAccepted (answer.Accepted n) = true
+isAccepted (answer.Delivered n s m) = true
+
+-- one more where the answer is accepted, in 64 bits
+abbrev pub countedOf : ℕ → Answer → ℕ
+countedOf accepted a = (accepted + pick (isAccepted a) 1 0) % 2 ^ 64
+
+-- what each call offers
+abbrev pub offered : Grant
+offered = record { guarantee = 0; cap = 256; hash = 39027 }
+
+-- ---- places
+
+-- the place behind one, at least one byte on, within a length
+abbrev pub behindOf : ℕ → ℕ → ℕ → ℕ
+behindOf at size length = min (at + max size 1) length
+
+-- the same, and the first place again behind the last
+abbrev pub nextOf : ℕ → ℕ → ℕ → ℕ
+nextOf at size length = pick (ltb (behindOf at size length) length) (behindOf at size length) 0
+
+-- how many whole places a length has; places of no bytes are none
+abbrev pub placesIn : ℕ → ℕ → ℕ
+placesIn length size = pick (eqb size 0) 0 (length / size)
+
+-- ---- call after call
+
+-- all that calls leave: what goes from one to the next, and the link's buffers
+pub record Left : Type 0 where
+  pub link : Link
+  pub accepted : ℕ
+  pub pool : List ℕ
+  pub out : List ℕ
+
+-- the code's run, with the lent buffers
+abbrev pub left : Run → List ℕ → List ℕ → Left
+left run pool out = record { link = run .link; accepted = run .accepted; pool = pool; out = out }
+
+-- what one more call leaves
+abbrev pub counting : ℕ → After → Left
+counting accepted a = record { link = a .link; accepted = countedOf accepted (a .answer); pool = a .pool; out = a .out }
+
+-- one call, with the bytes from a place on
+abbrev pub afterCall : List ℕ → ℕ → Left → Left
+afterCall places at l = counting (l .accepted) (callOf (l .link) (l .pool) (drop at places) (l .out) offered)
+
+-- so many calls, from a place on
+unfoldable pub runFrom : ℕ → List ℕ → ℕ → ℕ → Left → Left
+runFrom zero places size at l = l
+runFrom (suc calls) places size at l = runFrom calls places size (nextOf at size (length places)) (afterCall places at l)
+
+-- the version that the bench has too
+abbrev pub moduleVersion : Version
+moduleVersion = record { major = 5; minor = 4; patch = 1 }
+
+-- a link just created, with the bench's mtu, and no call accepted
+abbrev pub beginning : Run
+beginning = record { link = creationOf moduleVersion 131084 .link; accepted = 0 }
+
+-- ---- a script
+
+-- the bytes that a script has at most
+abbrev pub longest : ℕ
+longest = 300000
+
+-- a script's number at a place: four bytes, most significant first
+abbrev pub numberAt : List ℕ → ℕ → ℕ
+numberAt script at = valueBe (part script at 4)
+
+-- a script's number of bytes at a place, cut at the longest script
+abbrev pub sizeAt : List ℕ → ℕ → ℕ
+sizeAt script at = min (numberAt script at) longest
+
+-- the bytes of the beginning stand behind the four numbers
+abbrev pub opening : List ℕ → List ℕ
+opening script = part script 16 (sizeAt script 4)
+
+-- the bytes that are gone over again and again stand behind those
+abbrev pub again : List ℕ → List ℕ
+again script = part script (16 + sizeAt script 4) (sizeAt script 8)
+
+-- the beginning once, a call for each of its places; then as many calls with the rest as the last number says
+unfoldable pub scriptOf : List ℕ → List ℕ → List ℕ → Left
+scriptOf script pool out =
+    let size = numberAt script 0 in
+    runFrom (numberAt script 12) (again script) size 0 (runFrom (placesIn (sizeAt script 4) size) (opening script) size 0 (left beginning pool out))
+
+-- all that the program has of it: the accepted calls, and the link's buffers
+pub record Served : Type 0 where
+  pub accepted : ℕ
+  pub pool : List ℕ
+  pub out : List ℕ
+
+-- the same, put together
+abbrev pub served : ℕ → List ℕ → List ℕ → Served
+served accepted pool out = record { accepted = accepted; pool = pool; out = out }
+
+-- of all that calls leave, all but the link
+abbrev pub servedBy : Left → Served
+servedBy l = served (l .accepted) (l .pool) (l .out)
+
+-- what a script leaves there
+abbrev pub servedOf : List ℕ → List ℕ → List ℕ → Served
+servedOf script pool out = servedBy (scriptOf script pool out)
+
+-- ---- the program
+
+-- a number in decimal, and a newline
+abbrev pub lineOf : ℕ → List ℕ
+lineOf number = decimalOf number ++ 10 ∷ []
+
+-- 65,536 bytes of 0: the pool that a link asks for, and an out buffer as large
+unfoldable pub emptyBuffer : List ℕ
+emptyBuffer = replicate 65536 0
+
+-- what is written for a script: how many calls were accepted
+abbrev pub answerOf : List ℕ → List ℕ
+answerOf script = lineOf (servedOf script emptyBuffer emptyBuffer .accepted)
