@@ -237,3 +237,9 @@ module _ (n : ℕ) (h : mostKept ≤ n) where
       ∙ ap (λ (l : List ℕ). afterLines after (linesIn l q)) (append-nil k)
       ∙ sym (lines-then r (linesIn kept p) (linesIn k q))
       ∙ sym (ap (afterLines r) (lines-of-both kept p q))
+
+-- no bytes were read
+pub none-read : (line piece : List ℕ) (filled : ℕ) → length piece ≡ 0 → take filled line ≡ take (length line) (keptAfter (take filled line) piece)
+unfolding keptAfter
+none-read line [] filled h = sym (take-all (length line) (take filled line) (omega (arith, length-take filled line)))
+none-read line (b ∷ piece) filled h = absurd (omega arith)

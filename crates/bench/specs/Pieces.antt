@@ -1,6 +1,8 @@
 -- The program over a piece of its input: the lines that end in it, what they leave, and what is kept of the line that goes on in the next piece.
 -- What the system reads and writes is in no contract of the kit: of that the definitions say nothing. Assumes nothing.
 use Prim.Native.Nat.{ℕ, _+_, _-_}
+use mathlib.Core.Path.{_≡_}
+use mathlib.Core.Bool.{true, false, _&&_}
 use mathlib.Core.List.{List, [], _∷_, _++_}
 use lib.Dec.{eqb, leb}
 use lib.ListN.{length, take, drop}
@@ -9,6 +11,7 @@ use Rattle.benchline.specs.declared.Bench.{Bench}
 use Rattle.benchline.specs.declared.Output.{Output}
 use Rattle.benchline.specs.declared.Output.the-variants.{Text, Full}
 use Rattle.benchline.specs.Line.{Left, mostText, lineOf}
+use Rattle.bench.specs.declared.State.{State}
 
 -- "out of 65,536 bytes", and the pool that a link asks for
 abbrev pub outSize : ℕ
@@ -45,6 +48,12 @@ runOf bench pool out texts waiting = record { bench = bench; pool = pool; out = 
 abbrev pub written : Run → Run
 written r = runOf (r .bench) (r .pool) (r .out) (r .texts) 0
 
+-- after a write that failed nothing more is written or read
+abbrev pub Flushed : State → State → Type 0
+Flushed s r =
+    (s .taken ≡ false → (r .taken ≡ false) × (r .more ≡ s .more))
+    × (s .taken ≡ true → r .more ≡ s .more && r .taken)
+
 -- texts wait as long as the longest one fits behind them; else they are written first
 abbrev pub waitingBefore : List ℕ → List ℕ → ℕ → ℕ
 waitingBefore out texts waiting = pick (leb waiting (length texts - mostText out)) waiting 0
@@ -73,6 +82,10 @@ linesIn kept (b ∷ piece) = pick (eqb b 10) (kept ∷ linesIn [] piece) (linesI
 unfoldable pub keptAfter : List ℕ → List ℕ → List ℕ
 keptAfter kept [] = kept
 keptAfter kept (b ∷ piece) = pick (eqb b 10) (keptAfter [] piece) (keptAfter (kept ++ b ∷ []) piece)
+
+-- what a read brought: its lines are answered and the texts written; no bytes are the end of the input
+abbrev pub afterRead : Run → List ℕ → List ℕ → Run
+afterRead r kept piece = pick (eqb (length piece) 0) r (written (afterLines r (linesIn kept piece)))
 
 -- the texts that wait at the end
 pub record Waits : Type 0 where

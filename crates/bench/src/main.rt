@@ -3,11 +3,11 @@
 // It assumes nothing of the input: bytes of any kind and any number.
 ghost use Prim.Native.Nat.{_+_, _≤_, min};
 ghost use mathlib.Core.Path.{_≡_};
-ghost use mathlib.Core.Bool.{true};
+ghost use mathlib.Core.Bool.{true, false};
 ghost use mathlib.Core.List.{_++_};
 ghost use lib.ListN.{length, take};
 ghost use Rattle.benchline.specs.Line.{startOf, left, lineOf, mostText};
-ghost use Rattle.bench.specs.Pieces.{poolSize, outSize, IsText, sizeOf, mostKept, runOf, waitingBefore, written, afterLines, linesIn, keptAfter, waits, lastOf};
+ghost use Rattle.bench.specs.Pieces.{poolSize, outSize, IsText, sizeOf, mostKept, runOf, waitingBefore, written, Flushed, afterLines, linesIn, keptAfter, afterRead, waits, lastOf};
 use benchline::Bench;
 use benchline::Output;
 use benchline::Turn;
@@ -54,6 +54,7 @@ fn past(at: usize, count: usize, last: usize) -> usize
 // Writes the waiting texts. After a write that failed nothing more is written or read.
 fn flush(mut state: State, texts: &[u8]) -> State
     ensures { λ r. ⌜ (r .waiting ≡ 0) × (r .filled ≡ state .filled) ⌝ }
+    ensures { λ r. ⌜ Flushed state r ⌝ }
 {
     if state.taken {
         state.taken = io::write_all(STDOUT_FILENO, text::front(texts, state.waiting));
@@ -186,6 +187,32 @@ fn answer_piece(
     }
 }
 
+// What a read brought: no bytes are the end of the input.
+fn take_read(
+    left: Left,
+    piece: &[u8],
+    line: &mut [u8],
+    pool: &mut [u8],
+    out: &mut [u8],
+    texts: &mut [u8],
+) -> Left
+    requires { ⌜ (mostText (now out) ≤ length (now texts)) × (mostKept ≤ length (now line)) ⌝ }
+    ensures { λ r. ⌜ runOf (r .bench) (now (pool .exit)) (now (out .exit)) (now (texts .exit)) (r .state .waiting) ≡ afterRead (runOf (left .bench) (now (pool .entry)) (now (out .entry)) (now (texts .entry)) (left .state .waiting)) (take (left .state .filled) (now (line .entry))) (now (piece .entry)) ⌝ }
+    ensures { λ r. ⌜ take (r .state .filled) (now (line .exit)) ≡ take (length (now (line .entry))) (keptAfter (take (left .state .filled) (now (line .entry))) (now (piece .entry))) ⌝ }
+    ensures { λ r. ⌜ (length (now (piece .entry)) ≡ 0 → (r .state .more ≡ false) × (r .state .taken ≡ left .state .taken)) ⌝ }
+{
+    if piece.len() == 0 {
+        let mut state = left.state;
+        let bench = left.bench;
+        state.more = false;
+        return Left {
+            state: state,
+            bench: bench,
+        };
+    }
+    answer_piece(left, piece, line, pool, out, texts)
+}
+
 // Reads once.
 fn read_piece(
     left: Left,
@@ -198,17 +225,8 @@ fn read_piece(
     requires { ⌜ (mostText (now out) ≤ length (now texts)) × (mostKept ≤ length (now line)) ⌝ }
 {
     let got = libc::read(STDIN_FILENO, piece);
-    if got <= 0 {
-        let mut state = left.state;
-        let bench = left.bench;
-        state.more = false;
-        return Left {
-            state: state,
-            bench: bench,
-        };
-    }
     let count = io::count(got, piece);
-    answer_piece(left, &piece[..count], line, pool, out, texts)
+    take_read(left, &piece[..count], line, pool, out, texts)
 }
 
 // The last line may lack its newline; an empty one is none.

@@ -115,13 +115,9 @@ impl<'s> File<'s> {
         let text = self.text(at);
         match self.tokens[at].kind {
             Kind::Number if at == 0 || self.text(at - 1) != "." => {
-                let digits = text
-                    .find(|c: char| !c.is_ascii_digit() && c != '_')
-                    .unwrap_or(text.len());
-                let Ok(value) = text[..digits].replace('_', "").parse::<u128>() else {
+                let Some((value, suffix)) = number(text) else {
                     return;
                 };
-                let suffix = &text[digits..];
                 found.push(self.edit("one more", at, format!("{}{suffix}", value + 1)));
                 if value > 0 {
                     found.push(self.edit("one less", at, format!("{}{suffix}", value - 1)));
@@ -192,6 +188,18 @@ fn plain(byte: u8) -> Option<char> {
     (c.is_ascii_graphic() && !['\'', '"', '\\'].contains(&c)).then_some(c)
 }
 
+/// What a number's token says, and its type where it names one. In hexadecimal it names none.
+fn number(text: &str) -> Option<(u128, &str)> {
+    if let Some(digits) = text.strip_prefix("0x") {
+        return Some((u128::from_str_radix(digits, 16).ok()?, ""));
+    }
+    let digits = text
+        .find(|c: char| !c.is_ascii_digit() && c != '_')
+        .unwrap_or(text.len());
+    let value = text[..digits].replace('_', "").parse().ok()?;
+    Some((value, &text[digits..]))
+}
+
 #[cfg(test)]
 mod tests {
     use super::*;
@@ -253,6 +261,8 @@ mod tests {
             ["b'1' == \"C\"", "b'/' == \"C\"", "b'0' != \"C\""]
         );
         assert_eq!(made("g(b\"mtu\")"), ["g(b\"mtv\")"]);
+        assert_eq!(made("0x0f"), ["16", "14"]);
+        assert_eq!(made("1_0u8"), ["11u8", "9u8"]);
     }
 
     #[test]

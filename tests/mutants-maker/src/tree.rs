@@ -99,6 +99,18 @@ impl Tree {
         Ok((verdict, began.elapsed().as_secs_f64()))
     }
 
+    /// Whether the compiler takes the crate as it stands; a second, where a check takes many.
+    pub fn compiles(&self) -> io::Result<bool> {
+        let status = Command::new("rt")
+            .args(["mir", &self.name])
+            .current_dir(&self.root)
+            .stdin(Stdio::null())
+            .stdout(Stdio::null())
+            .stderr(Stdio::null())
+            .status()?;
+        Ok(status.success())
+    }
+
     /// Checks it with nothing kept of earlier checks; what was kept is put back.
     pub fn check_from_nothing(&self) -> io::Result<(Verdict, f64)> {
         let kept = self.root.join("target/inc");

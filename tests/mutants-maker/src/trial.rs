@@ -25,16 +25,47 @@ impl Trial<'_> {
         self.tried(&batches::next(waiting, &self.functions, has_proof))
     }
 
-    /// A batch; its halves, where one check says nothing of the whole.
+    /// A batch: those that the compiler refuses one by one, which is soon said, and the others together.
     fn tried<'m>(&self, batch: &[&'m Mutant]) -> io::Result<Vec<(&'m Mutant, Answer)>> {
+        let broken = self.broken(batch)?;
+        let place = |mutant: &Mutant| mutant.key();
+        let mut answers = Vec::new();
+        for one in &broken {
+            answers.push((*one, self.alone(one)?));
+        }
+        let mut rest = batch.to_vec();
+        rest.retain(|one| !broken.iter().any(|other| place(other) == place(one)));
+        if !rest.is_empty() {
+            answers.extend(self.together(&rest)?);
+        }
+        Ok(answers)
+    }
+
+    /// Those of a batch that the compiler refuses.
+    fn broken<'m>(&self, batch: &[&'m Mutant]) -> io::Result<Vec<&'m Mutant>> {
+        if self.with(batch, || self.tree.compiles())? {
+            return Ok(Vec::new());
+        }
+        if batch.len() == 1 {
+            return Ok(batch.to_vec());
+        }
+        let (first, second) = batch.split_at(batch.len() / 2);
+        let mut found = self.broken(first)?;
+        found.extend(self.broken(second)?);
+        Ok(found)
+    }
+
+    /// Several in one check; their halves, where that says nothing of the whole.
+    fn together<'m>(&self, batch: &[&'m Mutant]) -> io::Result<Vec<(&'m Mutant, Answer)>> {
         if let [one] = batch {
             return Ok(vec![(one, self.alone(one)?)]);
         }
         let (verdict, seconds) = self.with(batch, || self.tree.check())?;
+        println!("{}: {} together ({seconds:.1} s)", self.name, batch.len());
         if matches!(verdict, Verdict::NotCompiled | Verdict::Unclear) {
             let (first, second) = batch.split_at(batch.len() / 2);
-            let mut answers = self.tried(first)?;
-            answers.extend(self.tried(second)?);
+            let mut answers = self.together(first)?;
+            answers.extend(self.together(second)?);
             return Ok(answers);
         }
         let log = fs::read_to_string(self.tree.log())?;

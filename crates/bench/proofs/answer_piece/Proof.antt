@@ -8,7 +8,7 @@ use Rattle.bench.proofs.answer_piece.Tie as tie
 returns : tie.Need-returns
 returns c =
     let t = c .before .before .before .before .before .before .before .before .before .before .before .take-piece in
-    (then-written ((c .flush .ensures) .0) (t .ensures .0), then-kept (t .last .1 .1 .0) ((c .flush .ensures) .1) (t .ensures .1))
+    (then-written ((c .flush .ensures) .0 .0) (t .ensures .0), then-kept (t .last .1 .1 .0) ((c .flush .ensures) .0 .1) (t .ensures .1))
 
 pub answer-piece-spec : {M : Type 1} → statement M
 answer-piece-spec =
