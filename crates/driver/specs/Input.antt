@@ -1,7 +1,7 @@
 -- How lines are gathered from the pieces of the input. What the system reads is in no contract of the kit: of that the definitions say nothing.
 -- Assumes nothing.
 use Prim.Native.Nat.{ℕ, _+_, _-_, min}
-use mathlib.Core.Bool.{true, false}
+use mathlib.Core.Bool.{Bool, true, false, _&&_}
 use mathlib.Core.List.{List}
 use lib.Dec.{eqb, ltb}
 use lib.ListN.{length, take}
@@ -60,6 +60,10 @@ abbrev pub stepOf : Input → List ℕ → List ℕ → ℕ → Gathered
 stepOf i piece line count =
     pick (ltb (i .at) (i .count)) (partTaken i (take (i .count) piece) line)
     (gathered (readInto i count) line)
+
+-- after a write that failed nothing more is read or written
+abbrev pub afterWrite : Input → Bool → Input
+afterWrite i taken = record { count = i .count; at = i .at; filled = i .filled; ended = i .ended; more = i .more && taken }
 
 -- how much of the line buffer is a line: nothing while it is not whole, and one byte, which is no command, where it has "more than 300,000 bytes"
 abbrev pub lineLength : Input → ℕ

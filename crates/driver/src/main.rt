@@ -9,7 +9,7 @@ mod sessions;
 ghost use mathlib.Core.Path.{_≡_};
 ghost use Rattle.words.specs.Lines.{leaving};
 ghost use Rattle.driver.specs.Turns.{left, turnOf};
-ghost use Rattle.driver.specs.Input.{gathered, partTaken, begunOf, noInput, readInto, stepOf, lineLength, spokenLine};
+ghost use Rattle.driver.specs.Input.{gathered, partTaken, begunOf, noInput, readInto, stepOf, lineLength, spokenLine, afterWrite};
 use calls::Turn;
 use calls::Unit;
 use libc::STDIN_FILENO;
@@ -147,8 +147,15 @@ fn begin() -> Input
     }
 }
 
-// A proved loop has to end, and nothing says that the input does. So the turns are counted down, from a number that no run uses up.
 // After a write that failed nothing more is read or written.
+fn after_write(mut input: Input, taken: bool) -> Input
+    ensures { λ r. ⌜ r ≡ afterWrite input taken ⌝ }
+{
+    input.more = input.more & taken;
+    input
+}
+
+// A proved loop has to end, and nothing says that the input does. So the turns are counted down, from a number that no run uses up.
 fn main() {
     let mut piece = io::large_buffer();
     let mut line = line_buffer();
@@ -157,13 +164,13 @@ fn main() {
     let mut answer = output::line_buffer();
     let mut input = begin();
     let mut unit = calls::no_unit();
-    let mut taken = true;
     let mut turns = u64::MAX;
-    while turns > 0 && (input.more & taken) {
+    while turns > 0 && input.more {
         input = step(begun(input), &mut piece, &mut line);
         let command = command_of(input, &line, &mut content);
         let turn = obey(unit, command, &content, &mut pool, &mut answer);
-        taken = output::write(&answer, turn.count);
+        let taken = output::write(&answer, turn.count);
+        input = after_write(input, taken);
         unit = turn.unit;
         turns -= 1;
     }
