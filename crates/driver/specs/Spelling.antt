@@ -17,6 +17,7 @@ pub record Spelled : Type 0 where
   pub count : ℕ
   pub after : List ℕ
 
+-- no bytes are spelled
 abbrev pub plain : List ℕ → Spelled
 plain s = record { before = []; count = 0; after = s }
 
@@ -24,13 +25,15 @@ plain s = record { before = []; count = 0; after = s }
 abbrev pub withHex : List ℕ → ℕ → Spelled
 withHex s n = pick (eqb n 0) (plain (s ++ 32 ∷ 45 ∷ [])) (record { before = s ++ 32 ∷ []; count = n; after = [] })
 
+-- more characters at the end
 abbrev pub behind : Spelled → List ℕ → Spelled
 behind l s = record { before = l .before; count = l .count; after = l .after ++ s }
 
--- the characters of the line, with its newline; `out` is the out buffer
+-- the characters that are written, `out` being the out buffer: all but the digits are cut where a text is full
 abbrev pub cutLine : Spelled → List ℕ → List ℕ
 cutLine l out = take 4096 (l .before) ++ (hexOf (take (l .count) out) ++ take (4096 - length (l .before)) (l .after))
 
+-- the same with the newline
 abbrev pub lineOf : Spelled → List ℕ → List ℕ
 lineOf l out = cutLine (behind l (10 ∷ [])) out
 
