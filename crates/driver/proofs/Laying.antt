@@ -31,7 +31,7 @@ laid-front {d} {o} {q} {n} e =
 
 -- the three pieces of a line: the text e is the answer t with its newline, s its characters; the digits of the first bytes of out stand behind the first
 -- `cut` of them
-module _ {t e : Text} (ended : Longer t (10 ∷ []) e) (out line : List ℕ) (few : length out ≤ 131084) (room : length line ≡ 266264) {s : List ℕ} (all : s ≡ said e) where
+module _ {t e : Text} (ended : Longer t (10 ∷ []) e) (out line : List ℕ) (room : length line ≡ 266264) {s : List ℕ} (all : s ≡ said e) where
   short : length s ≤ 4096
   short = omega (arith, ap length all, ended .ends, ended .within)
 
@@ -47,9 +47,9 @@ module _ {t e : Text} (ended : Longer t (10 ∷ []) e) (out line : List ℕ) (fe
     first-put f g = all-put a line 0 first-fits f g
 
     -- the bytes that are spelled
-    module _ {b : List ℕ} (spelled : b ≡ take (e .size) out) {n : ℕ} {p : List ℕ} (kept : length p ≡ length line) (first : Appended 0 a line n p) where
+    module _ {b : List ℕ} (spelled : b ≡ take (min (e .size) 131084) out) {n : ℕ} {p : List ℕ} (kept : length p ≡ length line) (first : Appended 0 a line n p) where
       spelled-few : length b ≤ 131084
-      spelled-few = omega (arith, ap length spelled, length-take (e .size) out)
+      spelled-few = omega (arith, ap length spelled, length-take (min (e .size) 131084) out)
 
       pub digits-fit : n + 2 * length b ≤ length p
       digits-fit = omega (arith, first .ends, first-short, short, spelled-few)

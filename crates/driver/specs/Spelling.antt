@@ -1,6 +1,6 @@
 -- The line that answers a command: characters, and among them the digits of bytes that stand at the front of the out buffer; docs/DRIVER.md.
 -- A character is its number, as 'A' is 65. A text has room for 4,096 characters, and is cut there. Assumes nothing.
-use Prim.Native.Nat.{ℕ, _-_, _≤_}
+use Prim.Native.Nat.{ℕ, _-_, _≤_, min}
 use mathlib.Core.Path.{_≡_}
 use mathlib.Core.List.{List, [], _∷_, _++_}
 use lib.Dec.{eqb}
@@ -29,9 +29,13 @@ withHex s n = pick (eqb n 0) (plain (s ++ 32 ∷ 45 ∷ [])) (record { before = 
 abbrev pub behind : Spelled → List ℕ → Spelled
 behind l s = record { before = l .before; count = l .count; after = l .after ++ s }
 
+-- the digits of so many bytes at the front of an out buffer, which has "at most 131,084"
+abbrev pub digitsIn : ℕ → List ℕ → List ℕ
+digitsIn count out = hexOf (take (min count 131084) out)
+
 -- the characters that are written, `out` being the out buffer: all but the digits are cut where a text is full
 abbrev pub cutLine : Spelled → List ℕ → List ℕ
-cutLine l out = take 4096 (l .before) ++ (hexOf (take (l .count) out) ++ take (4096 - length (l .before)) (l .after))
+cutLine l out = take 4096 (l .before) ++ (digitsIn (l .count) out ++ take (4096 - length (l .before)) (l .after))
 
 -- the same with the newline
 abbrev pub lineOf : Spelled → List ℕ → List ℕ
@@ -50,7 +54,7 @@ abbrev pub brokenAt : ℕ → List ℕ → List ℕ → List ℕ
 brokenAt cut digits s = take cut s ++ (digits ++ drop cut s)
 
 abbrev pub textLine : Text → List ℕ → List ℕ
-textLine t out = brokenAt (t .cut) (hexOf (take (t .size) out)) (take 4096 (said t ++ 10 ∷ []))
+textLine t out = brokenAt (t .cut) (digitsIn (t .size) out) (take 4096 (said t ++ 10 ∷ []))
 
 -- ---- parts of a line
 

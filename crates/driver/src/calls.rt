@@ -1,9 +1,7 @@
 // The commands `new` and `call`: they make the link, or call it. Whoever reads the lines keeps the link between them; the pool is lent.
 // It assumes nothing of the line and nothing of the link. No rule of the protocol stands here.
-ghost use Prim.Native.Nat.{_≤_};
 ghost use mathlib.Core.Path.{_≡_};
 ghost use mathlib.Core.Bool.{false};
-ghost use lib.ListN.{length};
 ghost use Rattle.text.specs.Said.{Started, Appended};
 ghost use Rattle.link.specs.declared.Answer.the-variants.{Delivered};
 ghost use Rattle.headunit.specs.Unit.{leaves};
@@ -143,7 +141,6 @@ fn with_checks(text: Text, out: &[u8], pool: &[u8]) -> Text
 
 // Spells what a call left: answer, out, pool, state.
 fn spell_called(called: Called, out: &[u8], pool: &[u8], line: &mut [u8; ROOM]) -> Turn
-    requires { ⌜ length (now out) ≤ 131084 ⌝ }
     ensures { λ r. ⌜ left r (now (pool .entry)) (now (line .exit)) ≡ calledBy (leaves called (now (pool .entry)) (now (out .entry))) ⌝ }
 {
     let answer = called.answer;
@@ -173,7 +170,6 @@ fn call_into(
     out: &mut [u8],
     line: &mut [u8; ROOM],
 ) -> Turn
-    requires { ⌜ length (now out) ≤ 131084 ⌝ }
     ensures { λ r. ⌜ left r (now (pool .exit)) (now (line .exit)) ≡ calledOf link command (now (input .entry)) (now (pool .entry)) (now (out .entry)) ⌝ }
 {
     let called = headunit::call(link, pool, input, out, grant_of(command));

@@ -1,9 +1,8 @@
 // The commands that need no link: a function for each makes one call and answers its text. A further command is one function more here, and its name and
 // limits in words.rt. `input` are the bytes that the line says. `out` is an untouched out buffer; the bytes that an answer spells stand at its front.
 // It assumes nothing of the line. No rule of the protocol stands here.
-ghost use Prim.Native.Nat.{_≤_};
 ghost use mathlib.Core.Path.{_≡_};
-ghost use lib.ListN.{length, take};
+ghost use lib.ListN.{take};
 ghost use Rattle.frame.specs.Read.{readOf};
 ghost use Rattle.frame.specs.Write.{wrote};
 ghost use Rattle.payload.specs.Walk.{payloadOf};
@@ -175,7 +174,6 @@ fn filled_text(command: Command, input: &[u8], out: &mut [u8]) -> Text
 
 // Carries out a command that fills an out buffer and spells its answer at the front of `line`. Answers how long that is.
 fn fill_into(command: Command, input: &[u8], out: &mut [u8], line: &mut [u8; ROOM]) -> usize
-    requires { ⌜ length (now out) ≤ 131084 ⌝ }
     ensures { λ r. ⌜ take r (now (line .exit)) ≡ lineIn (filledOf command (now (input .entry)) (now (out .entry))) ⌝ }
 {
     let text = filled_text(command, input, out);

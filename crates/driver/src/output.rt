@@ -41,14 +41,14 @@ fn lay_digits(line: &mut [u8], at: usize, bytes: &[u8]) -> usize
 
 // An answer as a line at the front of `line`; the bytes that it spells stand at the front of `out`. Answers how long the line is.
 pub fn lay(answer: Text, out: &[u8], line: &mut [u8; ROOM]) -> usize
-    requires { ⌜ length (now out) ≤ 131084 ⌝ }
     ensures { λ r. ⌜ take r (now (line .exit)) ≡ textLine answer (now (out .entry)) ⌝ }
 {
     let ended = answer.byte(b'\n');
     let chars = ended.chars;
     let said = text::front(&chars, ended.end);
     let before = text::put(line, 0, text::front(said, ended.cut));
-    let digits = lay_digits(line, before, text::front(out, ended.size));
+    let count = numbers::least(ended.size, OUTLEN);
+    let digits = lay_digits(line, before, text::front(out, count));
     text::put(line, digits, text::part(said, ended.cut, said.len()))
 }
 
