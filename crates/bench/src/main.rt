@@ -6,7 +6,7 @@ ghost use mathlib.Core.Path.{_≡_};
 ghost use mathlib.Core.Bool.{true, false};
 ghost use mathlib.Core.List.{_++_};
 ghost use lib.ListN.{length, take};
-ghost use Rattle.benchline.specs.Line.{startOf, left, lineOf, mostText};
+ghost use Rattle.benchline.specs.Line.{newBench, left, lineOf, mostText};
 ghost use Rattle.bench.specs.Pieces.{poolSize, outSize, IsText, sizeOf, mostKept, runOf, waitingBefore, written, Flushed, afterLines, linesIn, keptAfter, afterRead, waits, lastOf};
 use benchline::Bench;
 use benchline::Output;
@@ -248,7 +248,7 @@ fn end_input(left: Left, line: &[u8], pool: &mut [u8], out: &mut [u8], texts: &m
 
 // Before the first piece: nothing is kept, nothing waits, and there is input to read.
 fn begin() -> Left
-    ensures { λ r. ⌜ (r .bench ≡ startOf) × ((r .state .filled ≡ 0) × (r .state .waiting ≡ 0)) ⌝ }
+    ensures { λ r. ⌜ (r .bench ≡ newBench) × ((r .state .filled ≡ 0) × (r .state .waiting ≡ 0)) ⌝ }
     ensures { λ r. ⌜ (r .state .more ≡ true) × (r .state .taken ≡ true) ⌝ }
 {
     Left {

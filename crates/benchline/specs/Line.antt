@@ -43,8 +43,8 @@ abbrev pub benchWith : Link → ℕ → Bench
 benchWith link lines = record { link = link; lines = lines }
 
 -- the bench before its first line
-abbrev pub startOf : Bench
-startOf = benchWith (createdLink moduleVersion moduleMtu) 0
+abbrev pub newBench : Bench
+newBench = benchWith (createdLink moduleVersion moduleMtu) 0
 
 -- "Short, or bytes after the frame" is X; bytes that the reader refuses go to the link, whose answer is that number
 abbrev pub isFrame : List ℕ → Reading → Bool

@@ -15,7 +15,7 @@ ghost use Rattle.payload.specs.Append.{Appended};
 ghost use Rattle.link.specs.Call.{callOf};
 ghost use Rattle.headunit.specs.Unit.{sent, sentOf};
 ghost use Rattle.benchline.specs.declared.Input.the-variants.{Frame, NotTaken};
-ghost use Rattle.benchline.specs.Line.{offer as offered, startOf, isFrame, isTaken, spaced, letterX, letterR, letterW, letterD, verdictOf, textOf, nextOf, left, refusedLine, answeredLine, mostText, lineOf};
+ghost use Rattle.benchline.specs.Line.{offer as offered, newBench, isFrame, isTaken, spaced, letterX, letterR, letterW, letterD, verdictOf, textOf, nextOf, left, refusedLine, answeredLine, mostText, lineOf};
 use frame::Reading;
 use frame::ServiceType;
 use lines::Decoded;
@@ -242,7 +242,7 @@ fn offer() -> Grant
 
 // The bench before its first line.
 pub fn start() -> Bench
-    ensures { λ r. ⌜ r ≡ startOf ⌝ }
+    ensures { λ r. ⌜ r ≡ newBench ⌝ }
 {
     let version = Version {
         major: 5,

@@ -11,7 +11,7 @@ use lib.Seq.{drop-nil, take-all, take-add, drop-drop, length-take-le, take-appen
 use borrow.Rule.Slice.PartMut.{putMid, same-len-mid}
 use Rattle.numbers.proofs.Choices.{same-or-not}
 use Rattle.numbers.proofs.Slices.{rest-lent}
-use Rattle.blocks.specs.Map.{blockSize, placeOf}
+use Rattle.blocks.specs.Map.{blockSize, nthNumber}
 use Rattle.blocks.specs.Pool.{appendedFrom, over, appended}
 use Rattle.blocks.proofs.Over.{over-length, over-past, over-nothing}
 use Rattle.blocks.proofs.Counts.{place-here, place-later, place-not, place-cases}
@@ -24,9 +24,9 @@ in-two : (f : List ℕ → List ℕ) (a b : ℕ) (pool : List ℕ) → take a po
 in-two f a b pool = rw (take-add a b pool, append-assoc, drop-drop b a pool)
 
 -- up to the owner's block at the place n nothing changes
-append-skip : (owner n off at k : ℕ) (s map pool : List ℕ) → at ≡ blockSize * n + off → k ≡ placeOf owner n map
+append-skip : (owner n off at k : ℕ) (s map pool : List ℕ) → at ≡ blockSize * n + off → k ≡ nthNumber owner n map
     → appended owner at s map pool ≡ take (blockSize * k) pool ++ appended owner off s (drop k map) (drop (blockSize * k) pool)
-unfolding appended placeOf
+unfolding appended nthNumber
 append-skip owner n off at k s [] pool f g = rw (drop-nil k) (sym (take-append-drop (blockSize * k) pool))
 append-skip owner n off at k s (o ∷ map) pool f g =
     place-cases owner n o
@@ -41,12 +41,12 @@ append-skip owner n off at k s (o ∷ map) pool f g =
     append-mine owner at o s map pool e
     ∙ ap₂ (λ (a b : List ℕ). a ++ b) (over-past at s (take blockSize pool) full)
     (ap (λ (i : ℕ). appended owner (at - blockSize) (drop i s) map (drop blockSize pool)) none
-    ∙ append-skip owner (n - 1) off (at - blockSize) (placeOf owner (n - 1) map) s map (drop blockSize pool) less refl)
-    ∙ further (placeOf owner (n - 1) map) (g ∙ place-later owner n o map e z))
+    ∙ append-skip owner (n - 1) off (at - blockSize) (nthNumber owner (n - 1) map) s map (drop blockSize pool) less refl)
+    ∙ further (nthNumber owner (n - 1) map) (g ∙ place-later owner n o map e z))
     (λ e.
     append-not owner at o s map pool e
-    ∙ ap (λ (b : List ℕ). take blockSize pool ++ b) (append-skip owner n off at (placeOf owner n map) s map (drop blockSize pool) f refl)
-    ∙ further (placeOf owner n map) (g ∙ place-not owner n o map e))
+    ∙ ap (λ (b : List ℕ). take blockSize pool ++ b) (append-skip owner n off at (nthNumber owner n map) s map (drop blockSize pool) f refl)
+    ∙ further (nthNumber owner n map) (g ∙ place-not owner n o map e))
   where
     further : (j : ℕ) → k ≡ suc j
         → take blockSize pool ++ (take (blockSize * j) (drop blockSize pool) ++ appended owner off s (drop j map) (drop (blockSize * j) (drop blockSize pool)))
@@ -56,7 +56,7 @@ append-skip owner n off at k s (o ∷ map) pool f g =
         in-two (appended owner off s (drop j map)) blockSize (blockSize * j) pool ∙ rw (q, m)
 
 -- the block at the place where the payload goes
-pub from-found : (owner at : ℕ) (s map pool : List ℕ) {k : ℕ} → k ≡ placeOf owner (at / blockSize) map
+pub from-found : (owner at : ℕ) (s map pool : List ℕ) {k : ℕ} → k ≡ nthNumber owner (at / blockSize) map
     → {after : List ℕ} → after ≡ appendedFrom owner k (at % blockSize) s map pool → after ≡ appended owner at s map pool
 unfolding appendedFrom
 from-found owner at s map pool {k} is e = e ∙ sym (append-skip owner (at / blockSize) (at % blockSize) at k s map pool (omega arith) is)
@@ -76,11 +76,11 @@ append-nothing owner at (o ∷ map) pool =
 
 -- ---- from a block on: k is the owner's next one
 
-module _ (owner b at : ℕ) (s map pool : List ℕ) (k : ℕ) (is : k ≡ b + placeOf owner 0 (drop b map)) where
+module _ (owner b at : ℕ) (s map pool : List ℕ) (k : ℕ) (is : k ≡ b + nthNumber owner 0 (drop b map)) where
   from-skip : appendedFrom owner b at s map pool ≡ appendedFrom owner k at s map pool
   unfolding appendedFrom
   from-skip =
-      let j : ℕ = placeOf owner 0 (drop b map) in
+      let j : ℕ = nthNumber owner 0 (drop b map) in
       let m : blockSize * (b + j) ≡ blockSize * b + blockSize * j = omega arith in
       ap (λ (t : List ℕ). take (blockSize * b) pool ++ t) (append-skip owner 0 at at j s (drop b map) (drop (blockSize * b) pool) (omega arith) refl)
       ∙ in-two (appended owner at s (drop j (drop b map))) (blockSize * b) (blockSize * j) pool
@@ -136,8 +136,8 @@ module _ {owner first at b place done : ℕ} {payload map before pool : List ℕ
   pub filling-falls : done < length payload → {n : ℕ} → n ≡ min (blockSize - place) (length payload - done) → length payload - (done + n) < length payload - done
   filling-falls more least = omega arith
 
-  module _ {r : ℕ} (scanned : r ≡ placeOf owner 0 (take (length map - b) (drop b map))) where
-    next : b + r ≡ b + placeOf owner 0 (drop b map)
+  module _ {r : ℕ} (scanned : r ≡ nthNumber owner 0 (take (length map - b) (drop b map))) where
+    next : b + r ≡ b + nthNumber owner 0 (drop b map)
     next = ap (λ (j : ℕ). b + j) (rest-place owner 0 map b scanned)
 
     pub filling-found : b + r ≤ length map

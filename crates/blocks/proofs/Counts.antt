@@ -12,7 +12,7 @@ use lib.Seq.{take-nil}
 use borrow.Author.Tests.{eqb-true, eqb-false, eq-eqb, ne-eqb, ltb-true, ltb-false, leb-true, leb-false, lt-ltb}
 use Rattle.numbers.specs.Bytes.{pick}
 use Rattle.numbers.proofs.Choices.{split, same-or-not}
-use Rattle.blocks.specs.Map.{free, neededFor, heldBy, heldByAll, freeIn, claimed, released, numbersFrom, blockNumbers, placeOf, Below, Outside}
+use Rattle.blocks.specs.Map.{free, neededFor, heldBy, heldByAll, freeIn, claimed, released, numbersFrom, blockNumbers, nthNumber, Below, Outside}
 
 -- ---- worked cases, by computation: before the laws, so that a changed definition is told by its values
 
@@ -27,9 +27,9 @@ claims : claimed 5 2 (0 ∷ 3 ∷ 0 ∷ 4 ∷ 0 ∷ []) ∷ claimed 5 9 (0 ∷ 3
 unfolding claimed released heldBy
 claims = refl
 
-places : blockNumbers 5 (5 ∷ 3 ∷ 5 ∷ 4 ∷ 5 ∷ []) ∷ (heldBy 5 (5 ∷ 3 ∷ 5 ∷ []) ∷ placeOf 5 1 (5 ∷ 3 ∷ 5 ∷ []) ∷ placeOf 5 2 (5 ∷ 3 ∷ 5 ∷ []) ∷ []) ∷ []
+places : blockNumbers 5 (5 ∷ 3 ∷ 5 ∷ 4 ∷ 5 ∷ []) ∷ (heldBy 5 (5 ∷ 3 ∷ 5 ∷ []) ∷ nthNumber 5 1 (5 ∷ 3 ∷ 5 ∷ []) ∷ nthNumber 5 2 (5 ∷ 3 ∷ 5 ∷ []) ∷ []) ∷ []
     ≡ (0 ∷ 2 ∷ 4 ∷ []) ∷ (2 ∷ 2 ∷ 3 ∷ []) ∷ []
-unfolding numbersFrom heldBy placeOf
+unfolding numbersFrom heldBy nthNumber
 places = refl
 
 -- ---- the count of one entry
@@ -225,16 +225,16 @@ claim-lowest b owner n (o ∷ map) h z =
 
 -- ---- the place of an owner's block
 
-pub place-here : (owner n o : ℕ) (map : List ℕ) → o ≡ owner → n ≡ 0 → placeOf owner n (o ∷ map) ≡ 0
-unfolding placeOf
+pub place-here : (owner n o : ℕ) (map : List ℕ) → o ≡ owner → n ≡ 0 → nthNumber owner n (o ∷ map) ≡ 0
+unfolding nthNumber
 place-here owner n o map e z = rw (eq-eqb o owner e, eq-eqb n 0 z)
 
-pub place-later : (owner n o : ℕ) (map : List ℕ) → o ≡ owner → n ≢ 0 → placeOf owner n (o ∷ map) ≡ suc (placeOf owner (n - 1) map)
-unfolding placeOf
+pub place-later : (owner n o : ℕ) (map : List ℕ) → o ≡ owner → n ≢ 0 → nthNumber owner n (o ∷ map) ≡ suc (nthNumber owner (n - 1) map)
+unfolding nthNumber
 place-later owner n o map e z = rw (eq-eqb o owner e, ne-eqb n 0 z)
 
-pub place-not : (owner n o : ℕ) (map : List ℕ) → o ≢ owner → placeOf owner n (o ∷ map) ≡ suc (placeOf owner n map)
-unfolding placeOf
+pub place-not : (owner n o : ℕ) (map : List ℕ) → o ≢ owner → nthNumber owner n (o ∷ map) ≡ suc (nthNumber owner n map)
+unfolding nthNumber
 place-not owner n o map h = rw (ne-eqb o owner h)
 
 pub place-cases : {X : Type 0} (owner n o : ℕ) → (o ≡ owner → n ≡ 0 → X) → (o ≡ owner → n ≢ 0 → X) → (o ≢ owner → X) → X
@@ -244,8 +244,8 @@ place-cases owner n o f g h =
     (λ e. h (eqb-false o owner e))
 
 -- inside the map, or its end
-pub place-most : (owner n : ℕ) (map : List ℕ) → placeOf owner n map ≤ length map
-unfolding placeOf
+pub place-most : (owner n : ℕ) (map : List ℕ) → nthNumber owner n map ≤ length map
+unfolding nthNumber
 place-most owner n [] = omega arith
 place-most owner n (o ∷ map) =
     place-cases owner n o
@@ -254,8 +254,8 @@ place-most owner n (o ∷ map) =
     (λ e. omega (arith, place-not owner n o map e, place-most owner n map))
 
 -- the block there is the owner's
-pub place-owner : (owner n : ℕ) (map : List ℕ) → placeOf owner n map < length map → getD map (placeOf owner n map) 0 ≡ owner
-unfolding placeOf
+pub place-owner : (owner n : ℕ) (map : List ℕ) → nthNumber owner n map < length map → getD map (nthNumber owner n map) 0 ≡ owner
+unfolding nthNumber
 place-owner owner n [] h = absurd (omega arith)
 place-owner owner n (o ∷ map) h =
     place-cases owner n o
@@ -265,7 +265,7 @@ place-owner owner n (o ∷ map) h =
 
 -- the first c entries hold too few
 pub place-skip : (owner n c : ℕ) (map : List ℕ) → c ≤ length map → heldBy owner (take c map) ≤ n
-    → placeOf owner n map ≡ c + placeOf owner (n - heldBy owner (take c map)) (drop c map)
+    → nthNumber owner n map ≡ c + nthNumber owner (n - heldBy owner (take c map)) (drop c map)
 unfolding heldBy
 place-skip owner n zero map h g =
     let e : n - 0 ≡ n = omega arith in

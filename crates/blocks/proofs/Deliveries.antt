@@ -9,7 +9,7 @@ use lib.Seq.{take-nil, drop-nil, take-all, take-take, take-at, drop-at, drop-dro
 use borrow.Rule.Slice.PartMut.{putMid, same-len-mid}
 use Rattle.numbers.proofs.Choices.{same-or-not}
 use Rattle.numbers.proofs.Slices.{rest-lent}
-use Rattle.blocks.specs.Map.{blockSize, heldBy, placeOf}
+use Rattle.blocks.specs.Map.{blockSize, heldBy, nthNumber}
 use Rattle.blocks.specs.Pool.{blockBytes, over, delivered}
 use Rattle.blocks.proofs.Over.{compare, over-length, over-nothing, over-behind, over-adds, over-append, over-pieces, over-cut, over-full}
 use Rattle.blocks.proofs.Counts.{place-here, place-not}
@@ -20,17 +20,17 @@ use Rattle.blocks.proofs.Turns.{group-most, next-block}
 -- ---- from the owner's first block on
 
 -- the bytes of the blocks before belong to others
-bytes-skip : (owner k : ℕ) (map pool : List ℕ) → k ≡ placeOf owner 0 map → blockBytes owner map pool ≡ blockBytes owner (drop k map) (drop (blockSize * k) pool)
-unfolding blockBytes placeOf
+bytes-skip : (owner k : ℕ) (map pool : List ℕ) → k ≡ nthNumber owner 0 map → blockBytes owner map pool ≡ blockBytes owner (drop k map) (drop (blockSize * k) pool)
+unfolding blockBytes nthNumber
 bytes-skip owner k [] pool g = rw (drop-nil k)
 bytes-skip owner k (o ∷ map) pool g =
     same-or-not o owner
     (λ e. let q : k ≡ 0 = g ∙ place-here owner 0 o map e refl in rw q)
     (λ e.
-    let q : k ≡ suc (placeOf owner 0 map) = g ∙ place-not owner 0 o map e in
-    let m : blockSize * suc (placeOf owner 0 map) ≡ blockSize + blockSize * placeOf owner 0 map = omega arith in
-    bytes-not owner o map pool e ∙ bytes-skip owner (placeOf owner 0 map) map (drop blockSize pool) refl
-    ∙ rw (q, m, drop-drop (blockSize * placeOf owner 0 map) blockSize pool))
+    let q : k ≡ suc (nthNumber owner 0 map) = g ∙ place-not owner 0 o map e in
+    let m : blockSize * suc (nthNumber owner 0 map) ≡ blockSize + blockSize * nthNumber owner 0 map = omega arith in
+    bytes-not owner o map pool e ∙ bytes-skip owner (nthNumber owner 0 map) map (drop blockSize pool) refl
+    ∙ rw (q, m, drop-drop (blockSize * nthNumber owner 0 map) blockSize pool))
 
 -- the first `due` of a block and what is behind it
 take-share : (due n : ℕ) (a b : List ℕ) → n ≡ min (length a) due → take due (a ++ b) ≡ take n a ++ take (due - n) b
@@ -55,7 +55,7 @@ module _ (owner due : ℕ) (map pool out : List ℕ) where
   unfolding delivered
   deliver-nothing e = rw e (sym (over-nothing 0 out))
 
-  module _ {k : ℕ} (is : k ≡ placeOf owner 0 map) where
+  module _ {k : ℕ} (is : k ≡ nthNumber owner 0 map) where
     -- the owner has no block
     pub deliver-no-block : length map ≤ k → out ≡ delivered owner due map pool out
     unfolding delivered blockBytes

@@ -12,7 +12,7 @@ use lib.ListN.{length, take, drop, getD, set, drop-of-length-le, take-append-dro
 use lib.Seq.{drop-cons, take-suc, take-suc-set, drop-set-lt, append-snoc, take-all, drop-drop, getD-drop}
 use Rattle.numbers.specs.Bytes.{pick}
 use Rattle.numbers.proofs.Slices.{rest-lent}
-use Rattle.blocks.specs.Map.{free, heldBy, claimed, released, placeOf}
+use Rattle.blocks.specs.Map.{free, heldBy, claimed, released, nthNumber}
 use Rattle.blocks.proofs.Counts.{held-most, claim-none, claim-taken, claim-held, place-here, place-later, place-not, place-most, place-owner, place-skip}
 
 -- a pass over a list at i: the entry is kept, or v is stored there
@@ -85,7 +85,7 @@ module _ (owner : ℕ) (map : List ℕ) (i n : ℕ) {r : ℕ} (e : r ≡ heldBy 
   group-most = omega (arith, group-count, held-most owner (take n (drop i map)), length-take n (drop i map))
 
   -- the block that is looked for is not among them
-  pub group-pass : (left : ℕ) → i + n ≤ length map → r ≤ left → placeOf owner left (drop i map) ≡ n + placeOf owner (left - r) (drop (i + n) map)
+  pub group-pass : (left : ℕ) → i + n ≤ length map → r ≤ left → nthNumber owner left (drop i map) ≡ n + nthNumber owner (left - r) (drop (i + n) map)
   group-pass left h g =
       let inside : n ≤ length (drop i map) = omega (arith, length-drop i map) in
       let few : heldBy owner (take n (drop i map)) ≤ left = omega (arith, group-count) in
@@ -95,39 +95,39 @@ module _ (owner : ℕ) (map : List ℕ) (i n : ℕ) {r : ℕ} (e : r ≡ heldBy 
 pub rest-count : (owner : ℕ) (map : List ℕ) (i : ℕ) {r : ℕ} → r ≡ heldBy owner (take (length map - i) (drop i map)) → r ≡ heldBy owner (drop i map)
 rest-count owner map i e = e ∙ ap (heldBy owner) (rest-lent map i)
 
-pub rest-place : (owner n : ℕ) (map : List ℕ) (i : ℕ) {r : ℕ} → r ≡ placeOf owner n (take (length map - i) (drop i map)) → r ≡ placeOf owner n (drop i map)
-rest-place owner n map i e = e ∙ ap (placeOf owner n) (rest-lent map i)
+pub rest-place : (owner n : ℕ) (map : List ℕ) (i : ℕ) {r : ℕ} → r ≡ nthNumber owner n (take (length map - i) (drop i map)) → r ≡ nthNumber owner n (drop i map)
+rest-place owner n map i e = e ∙ ap (nthNumber owner n) (rest-lent map i)
 
-pub place-inside : (owner n : ℕ) (map : List ℕ) (i : ℕ) {r : ℕ} → i ≤ length map → r ≡ placeOf owner n (take (length map - i) (drop i map)) → i + r ≤ length map
+pub place-inside : (owner n : ℕ) (map : List ℕ) (i : ℕ) {r : ℕ} → i ≤ length map → r ≡ nthNumber owner n (take (length map - i) (drop i map)) → i + r ≤ length map
 place-inside owner n map i h e = omega (arith, rest-place owner n map i e, place-most owner n (drop i map), length-drop i map)
 
 -- groups passed over, then smaller ones behind them, then entries
-pub skip-twice : (map : List ℕ) (a b owner n m k : ℕ) {r : ℕ} → a + placeOf owner m (drop a map) ≡ placeOf owner n map
-    → b + placeOf owner k (drop b (take (length map - a) (drop a map))) ≡ placeOf owner m (take (length map - a) (drop a map))
-    → r ≡ placeOf owner k (take (length map - (a + b)) (drop (a + b) map))
-    → a + b + r ≡ placeOf owner n map
+pub skip-twice : (map : List ℕ) (a b owner n m k : ℕ) {r : ℕ} → a + nthNumber owner m (drop a map) ≡ nthNumber owner n map
+    → b + nthNumber owner k (drop b (take (length map - a) (drop a map))) ≡ nthNumber owner m (take (length map - a) (drop a map))
+    → r ≡ nthNumber owner k (take (length map - (a + b)) (drop (a + b) map))
+    → a + b + r ≡ nthNumber owner n map
 skip-twice map a b owner n m k e f g =
-    let near : b + placeOf owner k (drop (a + b) map) ≡ placeOf owner m (drop a map) = rw (rest-lent map a, drop-drop b a map) at f in
+    let near : b + nthNumber owner k (drop (a + b) map) ≡ nthNumber owner m (drop a map) = rw (rest-lent map a, drop-drop b a map) at f in
     omega (arith, rest-place owner k map (a + b) g)
 
 -- finding: the block itself, another of the owner's before it, one of another, the end
 module _ (owner n : ℕ) (map : List ℕ) (i : ℕ) where
-  pub find-here : i < length map → getD map i 0 ≡ owner → n ≡ 0 → placeOf owner n (drop i map) ≡ 0
+  pub find-here : i < length map → getD map i 0 ≡ owner → n ≡ 0 → nthNumber owner n (drop i map) ≡ 0
   find-here h e z = rw (drop-cons map i 0 h) (place-here owner n (getD map i 0) (drop (suc i) map) e z)
 
-  pub find-later : i < length map → getD map i 0 ≡ owner → n ≢ 0 → placeOf owner n (drop i map) ≡ suc (placeOf owner (n - 1) (drop (i + 1) map))
+  pub find-later : i < length map → getD map i 0 ≡ owner → n ≢ 0 → nthNumber owner n (drop i map) ≡ suc (nthNumber owner (n - 1) (drop (i + 1) map))
   find-later h e z = rw (drop-cons map i 0 h, add-one i) (place-later owner n (getD map i 0) (drop (suc i) map) e z)
 
-  pub find-not : i < length map → getD map i 0 ≢ owner → placeOf owner n (drop i map) ≡ suc (placeOf owner n (drop (i + 1) map))
+  pub find-not : i < length map → getD map i 0 ≢ owner → nthNumber owner n (drop i map) ≡ suc (nthNumber owner n (drop (i + 1) map))
   find-not h e = rw (drop-cons map i 0 h, add-one i) (place-not owner n (getD map i 0) (drop (suc i) map) e)
 
-  pub find-end : length map ≤ i → placeOf owner n (drop i map) ≡ 0
-  unfolding placeOf
+  pub find-end : length map ≤ i → nthNumber owner n (drop i map) ≡ 0
+  unfolding nthNumber
   find-end h = rw drop-of-length-le
 
 -- the owner's next block from b on, and the map behind it
-pub next-block : (owner : ℕ) (map : List ℕ) (b k : ℕ) → k ≡ b + placeOf owner 0 (drop b map) → k < length map → drop k map ≡ owner ∷ drop (k + 1) map
+pub next-block : (owner : ℕ) (map : List ℕ) (b k : ℕ) → k ≡ b + nthNumber owner 0 (drop b map) → k < length map → drop k map ≡ owner ∷ drop (k + 1) map
 next-block owner map b k is below =
-    let j : ℕ = placeOf owner 0 (drop b map) in
+    let j : ℕ = nthNumber owner 0 (drop b map) in
     let mine : getD map k 0 ≡ owner = rw is (sym (getD-drop b map j 0) ∙ place-owner owner 0 (drop b map) (omega (arith, length-drop b map))) in
     rw (drop-cons map k 0 below, mine, add-one k)

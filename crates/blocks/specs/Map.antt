@@ -72,10 +72,10 @@ abbrev pub blockNumbers : ℕ → List ℕ → List ℕ
 blockNumbers owner map = numbersFrom 0 owner map
 
 -- the number of an owner's block at the place n, from 0, in rising order; the map's length if it has not so many
-unfoldable pub placeOf : ℕ → ℕ → List ℕ → ℕ
-placeOf owner n [] = 0
-placeOf owner n (o ∷ map) = pick (eqb o owner) (pick (eqb n 0) 0 (suc (placeOf owner (n - 1) map))) (suc (placeOf owner n map))
+unfoldable pub nthNumber : ℕ → ℕ → List ℕ → ℕ
+nthNumber owner n [] = 0
+nthNumber owner n (o ∷ map) = pick (eqb o owner) (pick (eqb n 0) 0 (suc (nthNumber owner (n - 1) map))) (suc (nthNumber owner n map))
 
 -- the same as an answer
 unfoldable pub nthBlock : ℕ → ℕ → List ℕ → Found
-nthBlock owner n map = pick (ltb (placeOf owner n map) (length map)) (Block (record { 0 = placeOf owner n map })) Missing
+nthBlock owner n map = pick (ltb (nthNumber owner n map) (length map)) (Block (record { 0 = nthNumber owner n map })) Missing

@@ -7,7 +7,7 @@ ghost use lib.Dec.{eqb, ltb, leb};
 ghost use mathlib.Core.Bool.{_&&_};
 ghost use lib.ListN.{length, drop};
 ghost use Rattle.numbers.specs.Bytes.{pick};
-ghost use Rattle.blocks.specs.Map.{blockSize, free, neededFor, freeMap, heldBy, freeIn, claimed, released, placeOf, nthBlock};
+ghost use Rattle.blocks.specs.Map.{blockSize, free, neededFor, freeMap, heldBy, freeIn, claimed, released, nthNumber, nthBlock};
 ghost use Rattle.blocks.specs.Pool.{over, appended, appendedFrom, delivered};
 
 // A block's place in the pool: block b has the BLOCK_SIZE bytes from BLOCK_SIZE * b on.
@@ -164,7 +164,7 @@ pub fn release(map: [u8; BLOCK_COUNT], low: Owner, high: Owner) -> [u8; BLOCK_CO
 
 // The number of an owner's block at the place n, entry by entry; the map's length if it has not so many.
 fn scan(map: &[u8], owner: u8, n: usize) -> usize
-    ensures { λ r. ⌜ r ≡ placeOf owner n (now (map .entry)) ⌝ }
+    ensures { λ r. ⌜ r ≡ nthNumber owner n (now (map .entry)) ⌝ }
 {
     let mut left = n;
     let mut i: usize = 0;
@@ -183,7 +183,7 @@ fn scan(map: &[u8], owner: u8, n: usize) -> usize
 // Passes over groups of entries while the block looked for lies behind them.
 fn skip(map: &[u8], owner: u8, n: usize, group: usize) -> Skipped
     requires { ⌜ (1 ≤ group) × (group ≤ 64) ⌝ }
-    ensures { λ r. ⌜ (r .from ≤ length (now (map .entry))) × (r .from + placeOf owner (r .left) (drop (r .from) (now (map .entry))) ≡ placeOf owner n (now (map .entry))) ⌝ }
+    ensures { λ r. ⌜ (r .from ≤ length (now (map .entry))) × (r .from + nthNumber owner (r .left) (drop (r .from) (now (map .entry))) ≡ nthNumber owner n (now (map .entry))) ⌝ }
 {
     let mut left = n;
     let mut from: usize = 0;
@@ -201,7 +201,7 @@ fn skip(map: &[u8], owner: u8, n: usize, group: usize) -> Skipped
 
 // The same as scan, by counting: only the last few entries are gone through one by one.
 fn find_block(map: &[u8], owner: u8, n: usize) -> BlockNumber
-    ensures { λ r. ⌜ r .0 ≡ placeOf owner n (now (map .entry)) ⌝ }
+    ensures { λ r. ⌜ r .0 ≡ nthNumber owner n (now (map .entry)) ⌝ }
 {
     let far = skip(map, owner, n, GROUP);
     let a = far.from;

@@ -13,7 +13,7 @@ use Rattle.payload.specs.Append.{Appended}
 use Rattle.payload.proofs.Appends.{more}
 use Rattle.text.specs.Pieces.{fitting, putInto}
 use Rattle.text.specs.declared.Text.{Text}
-use Rattle.text.specs.Said.{said, Appended as Longer}
+use Rattle.text.specs.Said.{said, Longer}
 use Rattle.driver.specs.Spelling.{textLine}
 
 -- `text::put` puts all of d into a buffer, from at on, where there is room

@@ -9,7 +9,7 @@ use lib.Seq.{take-append-seam, drop-append-seam}
 use borrow.Author.Tests.{eqb-true, eqb-false}
 use Rattle.numbers.proofs.Choices.{split}
 use Rattle.text.specs.declared.Text.{Text}
-use Rattle.text.specs.Said.{said, Started, Appended, Marked}
+use Rattle.text.specs.Said.{said, Started, Longer, Marked}
 use Rattle.text.proofs.Texts.{cut-twice, started, renamed}
 use Rattle.driver.specs.Spelling.{Spelled, plain, withHex, behind, lineOf, Holds, textLine}
 
@@ -31,7 +31,7 @@ module _ {s : List ℕ} {r : Text} where
 
 -- bytes as the last word, as `Text::hex` puts them
 module _ {s : List ℕ} {t r : Text} {n : ℕ} (f : Started s t) where
-  pub held-hex : (n ≡ 0 → Appended t (32 ∷ 45 ∷ []) r) × ((n ≡ 0 → ⊥) → Marked t (32 ∷ []) n r) → Holds (withHex s n) r
+  pub held-hex : (n ≡ 0 → Longer t (32 ∷ 45 ∷ []) r) × ((n ≡ 0 → ⊥) → Marked t (32 ∷ []) n r) → Holds (withHex s n) r
   held-hex h =
       split (eqb n 0)
       (λ e. rw e (held (started f (h .0 (eqb-true n 0 e)))))
@@ -48,7 +48,7 @@ module _ {s : List ℕ} {t r : Text} {n : ℕ} (f : Started s t) where
 
 -- characters behind a line
 module _ {l : Spelled} {t : Text} (f : Holds l t) where
-  pub held-more : {s : List ℕ} {r : Text} → Appended t s r → Holds (behind l s) r
+  pub held-more : {s : List ℕ} {r : Text} → Longer t s r → Holds (behind l s) r
   held-more {s} g =
       record {
         says = g .says ∙ ap (λ (u : List ℕ). take 4096 (u ++ s)) (f .says) ∙ cut-twice 4096 (l .before ++ l .after) s ∙ ap (take 4096) (append-assoc (l .before) (l .after) s);
@@ -69,5 +69,5 @@ module _ {l : Spelled} {t : Text} (f : Holds l t) where
 
 -- the last of several pieces
 module _ {t r : Text} {a : List ℕ} where
-  pub alone : Appended t a r → Appended t (a ++ []) r
+  pub alone : Longer t a r → Longer t (a ++ []) r
   alone f = renamed (sym (append-nil a)) f

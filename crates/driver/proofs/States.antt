@@ -16,7 +16,7 @@ use Rattle.numbers.specs.Bytes.{pick}
 use Rattle.numbers.proofs.Choices.{split}
 use Rattle.lines.specs.Decimal.{decimalOf}
 use Rattle.text.specs.declared.Text.{Text}
-use Rattle.text.specs.Said.{said, Appended}
+use Rattle.text.specs.Said.{said, Longer}
 use Rattle.text.proofs.Texts.{then, renamed}
 use Rattle.session.specs.declared.Reassembly.{Reassembly}
 use Rattle.session.specs.declared.Row.{Row}
@@ -28,10 +28,10 @@ use Rattle.driver.specs.Spelling.{joined, orDash}
 use Rattle.driver.specs.States.{blocksFrom, messageText, serviceAt, messagesFrom, sessionText, withSession, sessionsFrom}
 
 -- a piece that is put if a test holds
-pub chosen : {t r : Text} {x : List ℕ} (y : List ℕ) {b : Bool} → b ≡ true → Appended t x r → Appended t (pick b x y) r
+pub chosen : {t r : Text} {x : List ℕ} (y : List ℕ) {b : Bool} → b ≡ true → Longer t x r → Longer t (pick b x y) r
 chosen {x = x} y e f = renamed (sym (ap (λ (c : Bool). pick c x y) e)) f
 
-pub unchosen : {t r : Text} (x : List ℕ) {y : List ℕ} {b : Bool} → b ≡ false → Appended t y r → Appended t (pick b x y) r
+pub unchosen : {t r : Text} (x : List ℕ) {y : List ℕ} {b : Bool} → b ≡ false → Longer t y r → Longer t (pick b x y) r
 unchosen x {y} e f = renamed (sym (ap (λ (c : Bool). pick c x y) e)) f
 
 -- ---- a list that began behind t
@@ -39,16 +39,16 @@ unchosen x {y} e f = renamed (sym (ap (λ (c : Bool). pick c x y) e)) f
 -- the parts so far, and the text that has them: t itself while nothing was done
 pub data Listed (t : Text) : List ℕ → Text → Type 0 where
   none : Listed t [] t
-  some : {s : List ℕ} {u : Text} → Appended t s u → Listed t s u
+  some : {s : List ℕ} {u : Text} → Longer t s u → Listed t s u
 
 module _ {t : Text} (l : length (t .chars) ≡ 4096) where
-  end-is : {s : List ℕ} {u : Text} → Appended t s u → u .end ≡ min (min (t .end) 4096 + length s) 4096
+  end-is : {s : List ℕ} {u : Text} → Longer t s u → u .end ≡ min (min (t .end) 4096 + length s) 4096
   end-is {s} {u} f =
       let e : u .end ≡ length (take 4096 (said t ++ s)) = f .ends ∙ ap length (f .says) in
       omega (arith, e, length-take 4096 (said t ++ s), length-append (said t) s, length-take (t .end) (t .chars), l)
 
   -- behind a full text any piece says the same
-  full-says : {a b : List ℕ} {r : Text} → 4096 ≤ t .end → Appended t a r → Appended t b r
+  full-says : {a b : List ℕ} {r : Text} → 4096 ≤ t .end → Longer t a r → Longer t b r
   full-says {a} {b} h f =
       let m : 4096 ≤ length (said t) = omega (arith, length-take (t .end) (t .chars), l) in
       record {
@@ -59,35 +59,35 @@ module _ {t : Text} (l : length (t .chars) ≡ 4096) where
         size = f .size;
       }
 
-  joins-some : {u w : Text} (mark : ℕ) (p s : List ℕ) → Appended t s u → Appended u (pick (leb (u .end) (t .end)) [] (mark ∷ []) ++ p) w → Appended t (joined mark s p) w
+  joins-some : {u w : Text} (mark : ℕ) (p s : List ℕ) → Longer t s u → Longer u (pick (leb (u .end) (t .end)) [] (mark ∷ []) ++ p) w → Longer t (joined mark s p) w
   joins-some {u} {w} mark p [] f g =
       let h : u .end ≤ t .end = omega (arith, end-is f) in
-      then f (subst (λ (b : Bool). Appended u (pick b [] (mark ∷ []) ++ p) w) (le-leb (u .end) (t .end) h) g)
+      then f (subst (λ (b : Bool). Longer u (pick b [] (mark ∷ []) ++ p) w) (le-leb (u .end) (t .end) h) g)
   joins-some {u} {w} mark p (x ∷ s) f g =
       split (leb (u .end) (t .end))
       (λ e. full-says (omega (arith, end-is f, leb-true (u .end) (t .end) e)) (then f g))
-      (λ e. then f (subst (λ (b : Bool). Appended u (pick b [] (mark ∷ []) ++ p) w) e g))
+      (λ e. then f (subst (λ (b : Bool). Longer u (pick b [] (mark ∷ []) ++ p) w) e g))
 
   -- one part more
-  pub joins : {s : List ℕ} {u w : Text} (mark : ℕ) (p : List ℕ) → Listed t s u → Appended u (pick (leb (u .end) (t .end)) [] (mark ∷ []) ++ p) w → Appended t (joined mark s p) w
-  joins {s} {u} {w} mark p none g = subst (λ (b : Bool). Appended t (pick b [] (mark ∷ []) ++ p) w) (le-leb (t .end) (t .end) (omega arith)) g
+  pub joins : {s : List ℕ} {u w : Text} (mark : ℕ) (p : List ℕ) → Listed t s u → Longer u (pick (leb (u .end) (t .end)) [] (mark ∷ []) ++ p) w → Longer t (joined mark s p) w
+  joins {s} {u} {w} mark p none g = subst (λ (b : Bool). Longer t (pick b [] (mark ∷ []) ++ p) w) (le-leb (t .end) (t .end) (omega arith)) g
   joins {s} mark p (some f) g = joins-some mark p s f g
 
-  ends-some : {u r : Text} (s : List ℕ) → Appended t s u → Appended u (pick (leb (u .end) (t .end)) (45 ∷ []) []) r → Appended t (orDash s) r
+  ends-some : {u r : Text} (s : List ℕ) → Longer t s u → Longer u (pick (leb (u .end) (t .end)) (45 ∷ []) []) r → Longer t (orDash s) r
   ends-some {u} {r} [] f g =
       let h : u .end ≤ t .end = omega (arith, end-is f) in
-      then f (subst (λ (b : Bool). Appended u (pick b (45 ∷ []) []) r) (le-leb (u .end) (t .end) h) g)
+      then f (subst (λ (b : Bool). Longer u (pick b (45 ∷ []) []) r) (le-leb (u .end) (t .end) h) g)
   ends-some {u} {r} (x ∷ s) f g =
       split (leb (u .end) (t .end))
       (λ e. full-says (omega (arith, end-is f, leb-true (u .end) (t .end) e)) (then f g))
-      (λ e. renamed (append-nil (x ∷ s)) (then f (subst (λ (b : Bool). Appended u (pick b (45 ∷ []) []) r) e g)))
+      (λ e. renamed (append-nil (x ∷ s)) (then f (subst (λ (b : Bool). Longer u (pick b (45 ∷ []) []) r) e g)))
 
   -- no part more
-  pub ends-list : {s : List ℕ} {u r : Text} → Listed t s u → Appended u (pick (leb (u .end) (t .end)) (45 ∷ []) []) r → Appended t (orDash s) r
-  ends-list {s} {u} {r} none g = subst (λ (b : Bool). Appended t (pick b (45 ∷ []) []) r) (le-leb (t .end) (t .end) (omega arith)) g
+  pub ends-list : {s : List ℕ} {u r : Text} → Listed t s u → Longer u (pick (leb (u .end) (t .end)) (45 ∷ []) []) r → Longer t (orDash s) r
+  ends-list {s} {u} {r} none g = subst (λ (b : Bool). Longer t (pick b (45 ∷ []) []) r) (le-leb (t .end) (t .end) (omega arith)) g
   ends-list {s} (some f) g = ends-some s f g
 
-pub stays : {t u r : Text} {s : List ℕ} → Listed t s u → Appended u [] r → Appended t s r
+pub stays : {t u r : Text} {s : List ℕ} → Listed t s u → Longer u [] r → Longer t s r
 stays none g = g
 stays {s = s} (some f) g = renamed (append-nil s) (then f g)
 
@@ -119,7 +119,7 @@ module _ {t : Text} (owner b : ℕ) (owners : List ℕ) {whole : List ℕ} {u : 
   pub block-passed : b < length owners → getD owners b 0 ≢ owner → Listing t (blocksFrom owner (b + 1) (drop (b + 1) owners)) whole u
   block-passed h n = record { parts = i .parts; has = i .has; leads = after-block h false (ne-eqb (getD owners b 0) owner n) }
 
-  pub block-listed : {v w : Text} → length (t .chars) ≡ 4096 → b < length owners → getD owners b 0 ≡ owner → Appended u (pick (leb (u .end) (t .end)) [] (46 ∷ [])) v → Appended v (decimalOf b) w
+  pub block-listed : {v w : Text} → length (t .chars) ≡ 4096 → b < length owners → getD owners b 0 ≡ owner → Longer u (pick (leb (u .end) (t .end)) [] (46 ∷ [])) v → Longer v (decimalOf b) w
       → Listing t (blocksFrom owner (b + 1) (drop (b + 1) owners)) whole w
   block-listed l h e f g =
       record {
@@ -128,7 +128,7 @@ module _ {t : Text} (owner b : ℕ) (owners : List ℕ) {whole : List ℕ} {u : 
         leads = after-block h true (eq-eqb (getD owners b 0) owner e);
       }
 
-  pub blocks-end : {r : Text} → length owners ≤ b → Appended u [] r → Appended t whole r
+  pub blocks-end : {r : Text} → length owners ≤ b → Longer u [] r → Longer t whole r
   unfolding blocksFrom
   blocks-end h g =
       let e : i .parts ≡ blocksFrom owner b (drop b owners) (i .parts) = rw (drop-of-length-le owners {i = b} h) in
@@ -150,13 +150,13 @@ module _ {t : Text} (l : length (t .chars) ≡ 4096) (row place : ℕ) (owners :
     (i : Listing t (messagesFrom row place owners (drop place ms)) whole u) where
   -- a message behind those before it, if it is open
   with-message : (m : Reassembly) (service owner : ℕ) {w : Text} → (live : Bool) → m .live ≡ live
-      → Appended u (pick live (pick (leb (u .end) (t .end)) [] (43 ∷ []) ++ messageText m service owners owner) []) w
+      → Longer u (pick live (pick (leb (u .end) (t .end)) [] (43 ∷ []) ++ messageText m service owners owner) []) w
       → Listed t (pick live (joined 43 (i .parts) (messageText m service owners owner)) (i .parts)) w
   with-message m service owner true e g = some (joins l 43 (messageText m service owners owner) (i .has) g)
   with-message m service owner false e g = some (stays (i .has) g)
 
   pub message-listed : {service owner : ℕ} {w : Text} → place < length ms → service ≡ getD serviceAt place 0 → owner ≡ ownerOf row place
-      → Appended u (pick (getD ms place noReassembly .live) (pick (leb (u .end) (t .end)) [] (43 ∷ []) ++ messageText (getD ms place noReassembly) service owners owner) []) w
+      → Longer u (pick (getD ms place noReassembly .live) (pick (leb (u .end) (t .end)) [] (43 ∷ []) ++ messageText (getD ms place noReassembly) service owners owner) []) w
       → Listing t (messagesFrom row (place + 1) owners (drop (place + 1) ms)) whole w
   message-listed {service} {owner} h e f g =
       let m : Reassembly = getD ms place noReassembly in
@@ -170,7 +170,7 @@ module _ {t : Text} (l : length (t .chars) ≡ 4096) (row place : ℕ) (owners :
             ∙ i .leads;
       }
 
-  pub messages-end : {r : Text} → length ms ≤ place → Appended u (pick (leb (u .end) (t .end)) (45 ∷ []) []) r → Appended t (orDash whole) r
+  pub messages-end : {r : Text} → length ms ≤ place → Longer u (pick (leb (u .end) (t .end)) (45 ∷ []) []) r → Longer t (orDash whole) r
   unfolding messagesFrom
   messages-end h g =
       let e : i .parts ≡ messagesFrom row place owners (drop place ms) (i .parts) = rw (drop-of-length-le ms {i = place} h) in
@@ -209,7 +209,7 @@ module _ {t : Text} (rows : List Row) (owners : List ℕ) (id : ℕ) {u : Text} 
   id-passed {k} h q n link e f = record { parts = i link e f .parts; has = i link e f .has; leads = after-id h q false (le-ltb k 8 n) link e f }
 
   pub session-listed : {k : ℕ} {w : Text} → length (t .chars) ≡ 4096 → id < 255 → k ≡ indexOf (id + 1) rows → k < 8
-      → Appended u (pick (leb (u .end) (t .end)) [] (59 ∷ []) ++ sessionText (getD rows k noRow) k owners) w → Sessions t rows owners (id + 1) w
+      → Longer u (pick (leb (u .end) (t .end)) [] (59 ∷ []) ++ sessionText (getD rows k noRow) k owners) w → Sessions t rows owners (id + 1) w
   session-listed {k} l h q n g link e f =
       record {
         parts = joined 59 (i link e f .parts) (sessionText (getD rows k noRow) k owners);
@@ -217,8 +217,8 @@ module _ {t : Text} (rows : List Row) (owners : List ℕ) (id : ℕ) {u : Text} 
         leads = after-id h q true (lt-ltb k 8 n) link e f;
       }
 
-  pub sessions-end : {r : Text} → length (t .chars) ≡ 4096 → 255 ≤ id → Appended u (pick (leb (u .end) (t .end)) (45 ∷ []) []) r
-      → (link : Link) → link .rows ≡ rows → link .owners ≡ owners → Appended t (orDash (sessionsFrom link 1 255 [])) r
+  pub sessions-end : {r : Text} → length (t .chars) ≡ 4096 → 255 ≤ id → Longer u (pick (leb (u .end) (t .end)) (45 ∷ []) []) r
+      → (link : Link) → link .rows ≡ rows → link .owners ≡ owners → Longer t (orDash (sessionsFrom link 1 255 [])) r
   unfolding sessionsFrom
   sessions-end l h g link e f =
       let z : 255 - id ≡ 0 = omega arith in

@@ -9,7 +9,7 @@ use lib.Dec.{eqb}
 use lib.ListN.{length, take, set}
 use lib.Seq.{take-all, append-snoc, take-suc-set}
 use Rattle.text.specs.declared.Text.{Text}
-use Rattle.text.specs.Said.{Started, Appended}
+use Rattle.text.specs.Said.{Started, Longer}
 use Rattle.words.specs.declared.Command.{Command}
 use Rattle.payload.specs.declared.version.Version.{Version}
 use Rattle.link.specs.declared.Link.{Link}
@@ -71,7 +71,7 @@ new-is c pool {v} {mtu} {made} {p} {w} {t} e f g h s l =
     ∙ ap (newBy pool) (g ∙ ap (λ (x : Version). creationOf x mtu) e ∙ ap (creationOf (versionOf c)) f)
 
 -- what a call leaves, spelled: its answer, the checks, the state
-pub called-is : (a : After) {w : List ℕ} {t u r : Text} → Holds (answerLine (a .answer)) t → Appended t (checksText (a .out) (a .pool)) u → Appended u (stateText (a .link)) r
+pub called-is : (a : After) {w : List ℕ} {t u r : Text} → Holds (answerLine (a .answer)) t → Longer t (checksText (a .out) (a .pool)) u → Longer u (stateText (a .link)) r
     → w ≡ textLine r (a .out) → leaving true (a .link) (a .pool) w ≡ calledBy a
 called-is a h f g l = ap (leaving true (a .link) (a .pool)) (l ∙ line-held (held-more (held-more h f) g) (a .out))
 

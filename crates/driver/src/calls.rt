@@ -2,7 +2,7 @@
 // It assumes nothing of the line and nothing of the link. No rule of the protocol stands here.
 ghost use mathlib.Core.Path.{_≡_};
 ghost use mathlib.Core.Bool.{false};
-ghost use Rattle.text.specs.Said.{Started, Appended};
+ghost use Rattle.text.specs.Said.{Started, Longer};
 ghost use Rattle.link.specs.declared.Answer.the-variants.{Delivered};
 ghost use Rattle.headunit.specs.Unit.{leaves};
 ghost use Rattle.driver.specs.Spelling.{Holds, withHex, letterAnd};
@@ -133,7 +133,7 @@ fn answer_text(answer: Answer) -> Text
 
 // The checks of out and pool after a call.
 fn with_checks(text: Text, out: &[u8], pool: &[u8]) -> Text
-    ensures { λ r. ⌜ Appended text (checksText (now (out .entry)) (now (pool .entry))) r ⌝ }
+    ensures { λ r. ⌜ Longer text (checksText (now (out .entry)) (now (pool .entry))) r ⌝ }
 {
     let named = text.put(b" out=").decimal(text::check(out));
     named.put(b" pool=").decimal(text::check(pool)).byte(b' ')

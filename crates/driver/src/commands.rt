@@ -6,7 +6,7 @@ ghost use lib.ListN.{take};
 ghost use Rattle.frame.specs.Read.{readOf};
 ghost use Rattle.frame.specs.Write.{wrote};
 ghost use Rattle.payload.specs.Walk.{payloadOf};
-ghost use Rattle.text.specs.Said.{Started, Appended};
+ghost use Rattle.text.specs.Said.{Started, Longer};
 ghost use Rattle.driver.specs.Spelling.{Holds, numbersBy};
 ghost use Rattle.driver.specs.Answers.{headerNumbers, frameLine, readBy, headerOf, outgoingOf, wroteBy, writtenLine, filledOf, tagText, versionText, tagsText, payloadText, lineIn, lentOut, answerTo};
 use crate::output;
@@ -26,7 +26,7 @@ use words::Command;
 
 // version flag type service info session size id
 fn with_header(text: Text, header: Header) -> Text
-    ensures { λ r. ⌜ Appended text (numbersBy 32 (headerNumbers header)) r ⌝ }
+    ensures { λ r. ⌜ Longer text (numbersBy 32 (headerNumbers header)) r ⌝ }
 {
     let mut after = text.number8(b' ', header.version);
     after = after.number(b' ', header.flag as u64);
@@ -115,7 +115,7 @@ fn write(command: Command, input: &[u8], out: &mut [u8]) -> Written
 
 // A name and a tag's number, or `-` where it is absent.
 fn with_tag(text: Text, name: &[u8], found: bool, value: u64) -> Text
-    ensures { λ r. ⌜ Appended text (tagText (now (name .entry)) found value) r ⌝ }
+    ensures { λ r. ⌜ Longer text (tagText (now (name .entry)) found value) r ⌝ }
 {
     let named = text.put(name);
     if found {
@@ -137,7 +137,7 @@ fn version_text(version: StringTag, input: &[u8]) -> Text
 
 // The tags behind the version.
 fn with_tags(text: Text, tags: Tags) -> Text
-    ensures { λ r. ⌜ Appended text (tagsText tags) r ⌝ }
+    ensures { λ r. ⌜ Longer text (tagsText tags) r ⌝ }
 {
     let hash = tags.hash;
     let mtu = tags.mtu;

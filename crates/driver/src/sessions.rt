@@ -5,7 +5,7 @@ ghost use mathlib.Core.Path.{_≡_};
 ghost use mathlib.Core.List.{List, [], _∷_, _++_};
 ghost use lib.Dec.{leb};
 ghost use Rattle.numbers.specs.Bytes.{pick};
-ghost use Rattle.text.specs.Said.{Appended};
+ghost use Rattle.text.specs.Said.{Longer};
 ghost use Rattle.link.specs.State.{indexOf};
 ghost use Rattle.driver.specs.States.{blocksText, countsText, messageText, messagesText, serviceText, runningText, servicesText, rowNumbers, sessionText, stateText};
 use link::Link;
@@ -19,7 +19,7 @@ const SERVICES: [u8; 5] = [0x00, 0x07, 0x0a, 0x0b, 0x0f];
 
 // The numbers of an owner's blocks, joined by dots.
 fn with_blocks(text: Text, owners: [u8; 256], owner: u8) -> Text
-    ensures { λ r. ⌜ Appended text (blocksText owner owners) r ⌝ }
+    ensures { λ r. ⌜ Longer text (blocksText owner owners) r ⌝ }
 {
     let start = text.end;
     let mut after = text;
@@ -35,7 +35,7 @@ fn with_blocks(text: Text, owners: [u8; 256], owner: u8) -> Text
 
 // ID/TOTAL/COUNT/FRAMESTOCOME/BYTESMISSING/
 fn with_counts(text: Text, message: Reassembly) -> Text
-    ensures { λ r. ⌜ Appended text (countsText message) r ⌝ }
+    ensures { λ r. ⌜ Longer text (countsText message) r ⌝ }
 {
     let mut after = text.number32(b'/', message.id.0);
     after = after.number32(b'/', message.total);
@@ -54,7 +54,7 @@ fn with_message(
     owners: [u8; 256],
     owner: u8,
 ) -> Text
-    ensures { λ r. ⌜ Appended text (pick (message .live) (pick (leb (text .end) start) [] (43 ∷ []) ++ messageText message service owners owner) []) r ⌝ }
+    ensures { λ r. ⌜ Longer text (pick (message .live) (pick (leb (text .end) start) [] (43 ∷ []) ++ messageText message service owners owner) []) r ⌝ }
 {
     if message.live {
         let listed = text.joint(start, b'+').pair(service);
@@ -66,7 +66,7 @@ fn with_message(
 // The open messages of row i; the blocks of its message at a place have the owner 1 + 5 * i + place.
 fn with_messages(text: Text, row: Row, i: usize, owners: [u8; 256]) -> Text
     requires { ⌜ i < 8 ⌝ }
-    ensures { λ r. ⌜ Appended text (messagesText i owners (row .messages)) r ⌝ }
+    ensures { λ r. ⌜ Longer text (messagesText i owners (row .messages)) r ⌝ }
 {
     let messages = row.messages;
     let start = text.end;
@@ -90,14 +90,14 @@ fn with_messages(text: Text, row: Row, i: usize, owners: [u8; 256]) -> Text
 
 // A service and the hash of its start.
 fn with_service(text: Text, before: u8, service: u8, hash: u32) -> Text
-    ensures { λ r. ⌜ Appended text (serviceText before service hash) r ⌝ }
+    ensures { λ r. ⌜ Longer text (serviceText before service hash) r ⌝ }
 {
     text.byte(before).pair(service).number32(b'=', hash)
 }
 
 // A service, if it runs.
 fn with_running(text: Text, service: u8, running: Running) -> Text
-    ensures { λ r. ⌜ Appended text (runningText service running) r ⌝ }
+    ensures { λ r. ⌜ Longer text (runningText service running) r ⌝ }
 {
     if running.on {
         return with_service(text, b'+', service, running.hash);
@@ -107,7 +107,7 @@ fn with_running(text: Text, service: u8, running: Running) -> Text
 
 // The services that run; 07 runs as long as the session.
 fn with_services(text: Text, row: Row) -> Text
-    ensures { λ r. ⌜ Appended text (servicesText row) r ⌝ }
+    ensures { λ r. ⌜ Longer text (servicesText row) r ⌝ }
 {
     let rpc = with_service(text, b',', 0x07, row.hash);
     let audio = with_running(rpc, 0x0a, row.audio);
@@ -116,7 +116,7 @@ fn with_services(text: Text, row: Row) -> Text
 
 // id,G,C,version,next
 fn with_numbers(text: Text, row: Row) -> Text
-    ensures { λ r. ⌜ Appended text (rowNumbers row) r ⌝ }
+    ensures { λ r. ⌜ Longer text (rowNumbers row) r ⌝ }
 {
     let mut after = text.decimal(row.id.0 as u64);
     after = after.number32(b',', row.guarantee as u32);
@@ -128,7 +128,7 @@ fn with_numbers(text: Text, row: Row) -> Text
 // Row i in a list that begins at `start`: id,G,C,version,next,services,held,messages
 fn with_session(text: Text, start: usize, row: Row, i: usize, owners: [u8; 256]) -> Text
     requires { ⌜ i < 8 ⌝ }
-    ensures { λ r. ⌜ Appended text (pick (leb (text .end) start) [] (59 ∷ []) ++ sessionText row i owners) r ⌝ }
+    ensures { λ r. ⌜ Longer text (pick (leb (text .end) start) [] (59 ∷ []) ++ sessionText row i owners) r ⌝ }
 {
     let numbers = with_numbers(text.joint(start, b';'), row);
     let services = with_services(numbers, row);
@@ -152,7 +152,7 @@ fn row_of(rows: [Row; 8], id: u8) -> usize
 
 // The open sessions by rising id, joined by semicolons.
 pub fn with_sessions(text: Text, link: Link) -> Text
-    ensures { λ r. ⌜ Appended text (stateText link) r ⌝ }
+    ensures { λ r. ⌜ Longer text (stateText link) r ⌝ }
 {
     let rows = link.rows;
     let owners = link.owners;

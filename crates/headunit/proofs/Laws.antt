@@ -49,7 +49,7 @@ use Rattle.session.specs.declared.Act.{Act}
 use Rattle.session.specs.declared.Act.the-variants.{Refuse, Drop, Accept, Beat, Start, NoStart, Stop, Close, NoEnd, Claim, Append, Deliver, Single}
 use Rattle.session.specs.Rules.{replyVersion, barredBy}
 use Rattle.session.specs.Rows.{noRow, openedRow, messageAt}
-use Rattle.session.specs.Decide.{placeOf, needOf, heldOf, firstOf, dueNumber, sized, nextFor, singleOf, startable, startOf, endable, hashOf, endOf, controlOf, contentOf}
+use Rattle.session.specs.Decide.{placeOf, needOf, heldOf, firstOf, dueNumber, sized, nextFor, singleOf, startable, startingOf, endable, hashOf, endingOf, controlOf, contentOf}
 use Rattle.link.specs.declared.Link.{Link}
 use Rattle.link.specs.declared.Grant.{Grant}
 use Rattle.link.specs.declared.Answer.the-variants as answer
@@ -138,7 +138,7 @@ module _ (room size total : ℕ) where
   P act = Roomy room size total act
 
   control-roomy : (r : Row) (h : Header) (said : Said) → P (controlOf r h said)
-  unfolding controlOf startOf endOf
+  unfolding controlOf startingOf endingOf
   control-roomy r h said =
       either P (eqb (h .info) 0x01) _ _ (λ _. unless-elim P (startable r (h .service .0) && (not (eqb (r .version) 5) || said .readable)) NoStart Start (λ _. tt) (λ _. tt)) λ _.
       either P (eqb (h .info) 0x04) _ _

@@ -20,11 +20,11 @@ use Rattle.blocks.specs.Pool.{blockBytes, over, appended}
 use Rattle.session.specs.declared.Row.{Row}
 use Rattle.session.specs.Rows.{freeRow, openedRow, admittedRow, fedRow, settledRow, withMessageAt, withService}
 use Rattle.session.specs.Rules.{replyVersion, versionFits, mtuFits, isRunning, serviceFits, takesBeats, commandFits, barredBy}
-use Rattle.session.specs.Decide.{placeOf, needOf, heldBy as messageHeld, heldIn, firstOf, dueNumber, sized, nextFor, singleOf, startable, startOf, endable, hashOf, endOf as endFor, controlOf, contentOf}
+use Rattle.session.specs.Decide.{placeOf, needOf, messageBlocks, heldIn, firstOf, dueNumber, sized, nextFor, singleOf, startable, startingOf, endable, hashOf, endingOf, controlOf, contentOf}
 use Rattle.link.specs.State.{indexOf, ownerOf, sharesIn, distinctIds, roomFits, versionAllowed, serviceAt, messageFits, unsettledFits, blocksFit, freeFits, rowFits, rulesHold, settingsFit, grantFits, guardOf, lowestFree}
 use Rattle.link.specs.Reply.{grantedPayload}
 use Rattle.link.specs.Call.{After, readingOf, wishOf, opens, admits, oldVersion, saidOf, decisionOf, frameOf, callOf}
-use Rattle.link.specs.Book.{Command, call, askOf, seenOf, Page, lowestIn, needsIn, needsOf, added, struck, bookAfter, dueFor, dueOf, valuesOf}
+use Rattle.link.specs.Book.{Command, call, askOf, seenOf, Page, lowestNotIn, needsIn, needsOf, added, struck, bookAfter, dueFor, dueOf, valuesOf}
 use Rattle.link.specs.Claim.{State, isOpen, blocksOf}
 use Rattle.link.specs.Pages.{rowOf, noteOf, notesFrom, pages}
 
@@ -131,5 +131,5 @@ record ActualCalls : Type 0 where
   close : Kept (state (row 1 100 200) (rowWith 2 100 256 600 2) (taken 3 1) zeros) (frame 2 0 0x07 0x04 (bytesBe 4 39027))
 
 actual-calls : ActualCalls
-unfolding knownVersion listedService infoFits flagFits largest sizeFits faultOf headerSize frontOf messageOf readOf valueLe valueBe bytesLe bytesBe messageBytes frameNumber totalsFit payloadOf documentOf heldBy heldByAll freeMap claimed released blockBytes over appended settledRow withMessageAt withService replyVersion versionFits mtuFits isRunning serviceFits takesBeats commandFits barredBy placeOf needOf messageHeld heldIn firstOf dueNumber sized nextFor singleOf startable startOf endable hashOf endFor controlOf contentOf indexOf ownerOf sharesIn distinctIds roomFits versionAllowed serviceAt messageFits unsettledFits blocksFit freeFits rowFits rulesHold settingsFit grantFits guardOf lowestFree grantedPayload wishOf opens admits oldVersion saidOf decisionOf frameOf callOf askOf seenOf lowestIn needsIn added struck dueFor isOpen blocksOf rowOf noteOf notesFrom pages
+unfolding knownVersion listedService infoFits flagFits largest sizeFits faultOf headerSize frontOf messageOf readOf valueLe valueBe bytesLe bytesBe messageBytes frameNumber totalsFit payloadOf documentOf heldBy heldByAll freeMap claimed released blockBytes over appended settledRow withMessageAt withService replyVersion versionFits mtuFits isRunning serviceFits takesBeats commandFits barredBy placeOf needOf messageBlocks heldIn firstOf dueNumber sized nextFor singleOf startable startingOf endable hashOf endingOf controlOf contentOf indexOf ownerOf sharesIn distinctIds roomFits versionAllowed serviceAt messageFits unsettledFits blocksFit freeFits rowFits rulesHold settingsFit grantFits guardOf lowestFree grantedPayload wishOf opens admits oldVersion saidOf decisionOf frameOf callOf askOf seenOf lowestNotIn needsIn added struck dueFor isOpen blocksOf rowOf noteOf notesFrom pages
 actual-calls = record { ids = refl; drop = refl; whole = refl; greed = refl; large = (refl, refl); acks = (refl, refl); close = refl }

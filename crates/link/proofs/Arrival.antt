@@ -36,7 +36,7 @@ use Rattle.link.specs.declared.Answer.the-variants as answer
 use Rattle.link.specs.State.{indexOf, serviceAt, grantFits}
 use Rattle.link.specs.Call.{After, opens, decisionOf, applied, frameOf, callOf}
 use Rattle.link.specs.Book.{Request, Command, call, Ask, first, next, Seen, within, askOf, seenOf, names, isAccepted, Note, noNote, Page, Book, noteAt, withNote, pageAfterIf, noted, dueFor, dueOn, dueIn, dueOf}
-use Rattle.link.specs.Claim.{State, stepped, stateAfter, eventOf, endOf, isOpen, DeliversIt, DeliversDue}
+use Rattle.link.specs.Claim.{State, stepped, stateAfter, eventOf, stateAfterAll, isOpen, DeliversIt, DeliversDue}
 use Rattle.link.specs.Pages.{rowOf, notesFrom, pageOf, pages, Sane}
 use Rattle.link.specs.Arrival.{Fronts, Brings, Between, Cut, ArrivesWhole}
 use Rattle.link.proofs.Calls.{Called, short, refused, nacked, acked, in-row, called, guard-is, open-test, opens-zero, payloadIn, rowAct, rowCall}
@@ -363,8 +363,8 @@ module _ (o : Outgoing) (m : List ℕ) (cut : Cut o m) where
   upto k [] e = omega arith
   upto k (call q ∷ cs) e = ⊎-elim (λ x. upto k cs (x .1)) (λ x. omega (arith, upto (suc k) cs (x .1))) e
 
-  walks : (s : State) (j : ℕ) (cs : List Command) → Halfway s j → Between o m c (suc j) cs → (e : ℕ) × ((suc e ≡ c) × Halfway (endOf s cs) e)
-  unfolding endOf
+  walks : (s : State) (j : ℕ) (cs : List Command) → Halfway s j → Between o m c (suc j) cs → (e : ℕ) × ((suc e ≡ c) × Halfway (stateAfterAll s cs) e)
+  unfolding stateAfterAll
   walks s j [] w e = (j, (e, w))
   walks s j (call q ∷ cs) w e =
       ⊎-elim
@@ -377,4 +377,4 @@ pub arrives-whole : ArrivesWhole
 arrives-whole s k o m cut is-open mtu q f accepted between b last x room =
     let w = walks o m cut (stateAfter s (call q)) 0 between (begins o m cut s k is-open mtu q f accepted) b in
     let e : suc (w .0) ≡ countOf o m = w .1 .0 in
-    whole o m cut (endOf (stateAfter s (call q)) between) (w .0) (w .1 .1) (omega arith) last (subst (λ (n : ℕ). Brings o m n last) (sym e) x) e room
+    whole o m cut (stateAfterAll (stateAfter s (call q)) between) (w .0) (w .1 .1) (omega arith) last (subst (λ (n : ℕ). Brings o m n last) (sym e) x) e room

@@ -23,7 +23,7 @@ use Rattle.link.specs.declared.Grant.{Grant}
 use Rattle.link.specs.declared.Answer.the-variants as answer
 use Rattle.link.specs.State.{indexOf, withRow, withOwners}
 use Rattle.link.specs.Call.{After, admits, decisionOf, applied}
-use Rattle.link.specs.Book.{Request, Command, call, Ask, end, Seen, opening, within, nothing, askOf, Page, Book, written, lowestIn, newPage, pageAfterIf, noted, bookAfter}
+use Rattle.link.specs.Book.{Request, Command, call, Ask, end, Seen, opening, within, nothing, askOf, Page, Book, withPage, lowestNotIn, newPage, pageAfterIf, noted, bookAfter}
 use Rattle.link.specs.Claim.{State, stateAfter, eventOf, isOpen}
 use Rattle.link.specs.Pages.{noteOf, notesFrom, pageOf, pageIf, pages, Sane}
 use Rattle.link.proofs.Table.{index-below, missing-set}
@@ -36,8 +36,8 @@ use Rattle.link.proofs.Shown.{is-open, page-of, closed-page, missing-cl
 use Rattle.link.proofs.PageAfter.{refused-page, tells}
 
 -- the book with a page, at each id
-written-at : (b c : Book) (i : ℕ) (p : Option Page) → p ≡ c i → ((j : ℕ) → (i ≡ j → ⊥) → b j ≡ c j) → (j : ℕ) → written b i p j ≡ c j
-written-at b c i p e f j =
+page-at : (b c : Book) (i : ℕ) (p : Option Page) → p ≡ c i → ((j : ℕ) → (i ≡ j → ⊥) → b j ≡ c j) → (j : ℕ) → withPage b i p j ≡ c j
+page-at b c i p e f j =
     onTest (λ (t : Bool). eqb i j ≡ t → pick t p (b j) ≡ c j) (eqb i j)
     (λ _ u. e ∙ ap c (eqb-true i j u)) (λ _ u. f j (eqb-false i j u)) refl
 
@@ -89,12 +89,12 @@ module _ (s : State) (k : Sane s) where
     new-page t n v = refl
 
     enters : (v : ℕ) → admits (s .link .rows) (q .grant) ≡ true
-        → (j : ℕ) → written (pages s) (lowestIn (pages s) 255 1) (some (newPage (q .grant))) j ≡ pages (record { link = entered (s .link) (q .grant) v; pool = s .pool }) j
+        → (j : ℕ) → withPage (pages s) (lowestNotIn (pages s) 255 1) (some (newPage (q .grant))) j ≡ pages (record { link = entered (s .link) (q .grant) v; pool = s .pool }) j
     unfolding pages
     enters v e =
         let t : State = record { link = entered (s .link) (q .grant) v; pool = s .pool } in
-        let i : ℕ = lowestIn (pages s) 255 1 in
-        written-at (pages s) (pages t) i _
+        let i : ℕ = lowestNotIn (pages s) 255 1 in
+        page-at (pages s) (pages t) i _
         (sym (ap (λ (o : Option Row). pageIf t (indexOf i (t .link .rows)) o) (entered-row s (q .grant) v k e) ∙ ap some (new-page t (indexOf i (t .link .rows)) v)))
         (λ j d. sym (split (isOpen s j)
         (λ o. entered-leaves s j k o (q .grant) v e .1)
@@ -104,7 +104,7 @@ module _ (s : State) (k : Sane s) where
     call-tells : {x : Seen} {w : After} → Called (s .link) (s .pool) (q .input) (q .out) (q .grant) x w → Tells (q .grant) x w
     call-tells short = λ j. refl
     call-tells (refused {x = opening} b) = λ j. refl
-    call-tells (refused {x = within i ask} b) = written-at (pages s) (pages s) i _ (refused-if (pages s i) ask _ b) (λ j _. refl)
+    call-tells (refused {x = within i ask} b) = page-at (pages s) (pages s) i _ (refused-if (pages s i) ask _ b) (λ j _. refl)
     call-tells (refused {x = nothing} b) = λ j. refl
     call-tells nacked = λ j. refl
     call-tells (acked t a v) = enters _ a
@@ -115,7 +115,7 @@ module _ (s : State) (k : Sane s) where
         let act : Act = decisionOf (s .link) n h payload (length (q .out)) in
         let w : After = applied (s .link) n (s .pool) (q .out) h (e .consumed) payload (q .grant) act in
         let o : isOpen s i ≡ true = is-open s i a in
-        written-at (pages s) (pages (after w)) i _
+        page-at (pages s) (pages (after w)) i _
         (ap (λ (p : Option Page). pageAfterIf p (askOf h payload) (w .answer)) (page-of s i o)
         ∙ tells s i k o q h (e .consumed) payload (payload-length (q .input) h e f) (decided (s .link) n h payload (length (q .out))))
         (λ j d. sym (others-kept i n q h (e .consumed) payload act (open-facts s i k o .mine) j d))

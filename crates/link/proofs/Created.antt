@@ -8,7 +8,7 @@ use native.Mathlib.Omega.{arith}
 use lib.ListN.{length}
 use borrow.Author.Tests.{ne-eqb}
 use Rattle.blocks.specs.Map.{freeMap, heldBy, heldByAll}
-use Rattle.session.specs.Decide.{needOf, heldIn, heldBy as messageHeld}
+use Rattle.session.specs.Decide.{needOf, heldIn, messageBlocks}
 use Rattle.payload.specs.declared.version.Version.{Version}
 use Rattle.link.specs.State.{indexOf, ownerOf, sharesIn, distinctIds, blocksFit, freeFits, rowFits, rulesHold, settingsFit, createdLink}
 use Rattle.link.specs.Book.{emptyBook}
@@ -16,7 +16,7 @@ use Rattle.link.specs.Claim.{isOpen, created}
 use Rattle.link.specs.Pages.{rowOf, pages, Sane}
 
 created-rules : (v : Version) (mtu : ℕ) → rulesHold (createdLink v mtu) ≡ true
-unfolding rulesHold distinctIds indexOf rowFits blocksFit ownerOf freeFits sharesIn heldIn messageHeld heldBy heldByAll freeMap needOf
+unfolding rulesHold distinctIds indexOf rowFits blocksFit ownerOf freeFits sharesIn heldIn messageBlocks heldBy heldByAll freeMap needOf
 created-rules v mtu = refl
 
 pub created-sane : (v : Version) (mtu : ℕ) (pool : List ℕ) → settingsFit v mtu ≡ true → length pool ≡ 65536 → Sane (created v mtu pool)

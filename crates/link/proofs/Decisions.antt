@@ -22,7 +22,7 @@ use Rattle.session.specs.declared.Act.{Act}
 use Rattle.session.specs.declared.Act.the-variants.{Refuse, Drop, Accept, Beat, Start, NoStart, Stop, Close, NoEnd, Claim, Append, Deliver, Single}
 use Rattle.session.specs.Rows.{noRow, messageAt}
 use Rattle.session.specs.Rules.{versionFits, mtuFits, serviceFits, commandFits, barredBy}
-use Rattle.session.specs.Decide.{placeOf, needOf, heldOf, shareOf, firstOf, dueNumber, sized, nextFor, singleOf, startable, startOf, endable, hashOf, endOf, controlOf, contentOf}
+use Rattle.session.specs.Decide.{placeOf, needOf, heldOf, shareOf, firstOf, dueNumber, sized, nextFor, singleOf, startable, startingOf, endable, hashOf, endingOf, controlOf, contentOf}
 use Rattle.link.specs.declared.Link.{Link}
 use Rattle.link.specs.State.{sharesIn}
 use Rattle.link.specs.Call.{saidOf, decisionOf}
@@ -140,8 +140,8 @@ module _ (l : Link) (i : ℕ) (h : Header) (payload : List ℕ) where
       unless-elim P (eqb (m .frames) 1) _ _ (λ more. appends c sizes (eqb-false (m .frames) 1 more)) λ one.
       unless-elim P (leb (m .total) room) _ _ (λ _. refuses (omega arith)) (λ _. delivers c sizes (eqb-true (m .frames) 1 one))
 
-  end-decided : (said : Said) → Decided (end place) (endOf r h said)
-  unfolding endOf
+  end-decided : (said : Said) → Decided (end place) (endingOf r h said)
+  unfolding endingOf
   end-decided said =
       let P : Act → Type 0 = Decided (end place) in
       unless-elim P (endable r (h .service .0)) _ _ (λ _. ends-not) λ _.
@@ -149,7 +149,7 @@ module _ (l : Link) (i : ℕ) (h : Header) (payload : List ℕ) where
       either P (eqb (h .service .0) 0x07) _ _ (λ e. closes (place-one (h .service .0) e)) (λ e. stops (place-other (h .service .0) e))
 
   control-decided : (said : Said) → Decided (pick (eqb (h .info) 0x04) (end place) other) (controlOf r h said)
-  unfolding controlOf startOf
+  unfolding controlOf startingOf
   control-decided said =
       let P : Act → Type 0 = Decided other in
       either (Decided _) (eqb (h .info) 0x01) _ _

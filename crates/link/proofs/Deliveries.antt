@@ -12,7 +12,7 @@ use lib.Seq.{length-take-le}
 use borrow.Author.Tests.{eqb-true, eq-eqb, ne-eqb}
 use Rattle.numbers.specs.Bytes.{laid}
 use Rattle.numbers.proofs.Choices.{and-both}
-use Rattle.blocks.specs.Map.{heldBy as blocksOf}
+use Rattle.blocks.specs.Map.{heldBy}
 use Rattle.frame.specs.declared.Header.{Header}
 use Rattle.frame.specs.declared.Extent.{Extent}
 use Rattle.frame.specs.declared.Reading.the-variants as reading
@@ -24,7 +24,7 @@ use Rattle.session.specs.declared.Reassembly.{Reassembly}
 use Rattle.session.specs.declared.Row.{Row}
 use Rattle.session.specs.declared.Act.{Act}
 use Rattle.session.specs.Rows.{noRow, noReassembly, messageAt}
-use Rattle.session.specs.Decide.{placeOf, needOf, heldBy, sized}
+use Rattle.session.specs.Decide.{placeOf, needOf, messageBlocks, sized}
 use Rattle.link.specs.State.{indexOf, ownerOf}
 use Rattle.link.specs.Call.{After, applied}
 use Rattle.link.specs.Book.{Request, Command, call, Ask, Seen, askOf, isAccepted, noNote, dueFor, dueOn, dueIn, dueOf}
@@ -70,13 +70,13 @@ module _ (s : State) (n place : ℕ) (m : Reassembly) (id : ℕ) (payload : List
 
 -- a frame of an open message: the bytes that were there and the payload are the first of its blocks
 module _ (s : State) (k : Sane s) (n place : ℕ) (m : Reassembly) (payload : List ℕ) (live : m .live ≡ true) (most : m .missing ≤ m .total) (fit : length payload ≤ m .missing)
-    (held : blocksOf (ownerOf n place) (s .link .owners) ≡ heldBy m) where
+    (held : heldBy (ownerOf n place) (s .link .owners) ≡ messageBlocks m) where
   abbrev came : List ℕ
   came = take (m .total - m .missing) (blockBytes (ownerOf n place) (s .link .owners) (s .pool))
 
-  has-room : m .total ≤ 256 * blocksOf (ownerOf n place) (s .link .owners)
-  unfolding heldBy needOf
-  has-room = let z : blocksOf (ownerOf n place) (s .link .owners) ≡ (m .total + 255) / 256 = held ∙ rw live in omega arith
+  has-room : m .total ≤ 256 * heldBy (ownerOf n place) (s .link .owners)
+  unfolding messageBlocks needOf
+  has-room = let z : heldBy (ownerOf n place) (s .link .owners) ≡ (m .total + 255) / 256 = held ∙ rw live in omega arith
 
   pub joined : take (m .total - (m .missing - length payload)) (blockBytes (ownerOf n place) (s .link .owners) (appended (ownerOf n place) (m .total - m .missing) payload (s .link .owners) (s .pool)))
       ≡ came ++ payload

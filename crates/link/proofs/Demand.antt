@@ -8,7 +8,7 @@ use lib.ListN.{length}
 use Rattle.payload.specs.declared.version.Version.{Version}
 use Rattle.link.specs.State.{settingsFit}
 use Rattle.link.specs.Book.{Command}
-use Rattle.link.specs.Claim.{endOf, created, DemandThree}
+use Rattle.link.specs.Claim.{stateAfterAll, created, DemandThree}
 use Rattle.link.specs.Pages.{Sane}
 use Rattle.link.proofs.Lists.{Laws, all-sane, demanded}
 use Rattle.link.proofs.AllSane.{sane}
@@ -45,5 +45,5 @@ pub demand-three : DemandThree
 demand-three v mtu pool f l cs = demanded laws (created v mtu pool) (created-sane v mtu pool f l) (created-book v mtu pool) cs
 
 -- "every state after a list keeps the state rules"
-pub rules-kept : (v : Version) (mtu : ℕ) (pool : List ℕ) → settingsFit v mtu ≡ true → length pool ≡ 65536 → (cs : List Command) → Sane (endOf (created v mtu pool) cs)
+pub rules-kept : (v : Version) (mtu : ℕ) (pool : List ℕ) → settingsFit v mtu ≡ true → length pool ≡ 65536 → (cs : List Command) → Sane (stateAfterAll (created v mtu pool) cs)
 rules-kept v mtu pool f l cs = all-sane laws (created v mtu pool) cs (created-sane v mtu pool f l)

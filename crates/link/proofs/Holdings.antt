@@ -15,7 +15,7 @@ use Rattle.blocks.specs.Map.{heldBy, heldByAll}
 use Rattle.session.specs.declared.Reassembly.{Reassembly}
 use Rattle.session.specs.declared.Row.{Row}
 use Rattle.session.specs.Rows.{noRow, noReassembly, messageAt}
-use Rattle.session.specs.Decide.{needOf, heldIn, heldOf, heldBy as heldFor}
+use Rattle.session.specs.Decide.{needOf, heldIn, heldOf, messageBlocks}
 use Rattle.link.specs.State.{indexOf, ownerOf, allFrom, roomFits, versionAllowed, unsettledFits, messageFits, blocksFit, rowFits}
 use Rattle.link.specs.Book.{there, Page, needsIn, needsOf}
 use Rattle.link.specs.Claim.{State, isOpen, blocksOf}
@@ -45,20 +45,20 @@ module _ (owners : List ℕ) (i : ℕ) (r : Row) where
   abbrev counts : ℕ → Reassembly → Bool
   counts place m = eqb (heldBy (ownerOf i place) owners) (pick (m .live) (needOf (m .total)) 0)
 
-  pub blocks-say : blocksFit owners i r ≡ true → (k : ℕ) → k < length (r .messages) → heldBy (ownerOf i k) owners ≡ heldFor (messageAt r k)
-  unfolding blocksFit heldFor
+  pub blocks-say : blocksFit owners i r ≡ true → (k : ℕ) → k < length (r .messages) → heldBy (ownerOf i k) owners ≡ messageBlocks (messageAt r k)
+  unfolding blocksFit messageBlocks
   blocks-say e k h = eqb-true _ _ (each-at counts (r .messages) k noReassembly e h)
 
-  pub say-blocks : ((k : ℕ) → k < length (r .messages) → heldBy (ownerOf i k) owners ≡ heldFor (messageAt r k)) → blocksFit owners i r ≡ true
-  unfolding blocksFit heldFor
+  pub say-blocks : ((k : ℕ) → k < length (r .messages) → heldBy (ownerOf i k) owners ≡ messageBlocks (messageAt r k)) → blocksFit owners i r ≡ true
+  unfolding blocksFit messageBlocks
   say-blocks f = each-make counts (r .messages) noReassembly (λ k h. eq-eqb _ _ (f k h))
 
   owned : (place : ℕ) (ms : List Reassembly) → allFrom place counts ms ≡ true → heldByAll (ownerOf i place) (length ms) owners ≡ heldIn ms
-  unfolding heldByAll heldIn heldFor
+  unfolding heldByAll heldIn messageBlocks
   owned place [] e = refl
   owned place (m ∷ ms) e =
       let p = and-both (counts place m) _ e in
-      let here : heldBy (ownerOf i place) owners ≡ heldFor m = eqb-true _ _ (p .0) in
+      let here : heldBy (ownerOf i place) owners ≡ messageBlocks m = eqb-true _ _ (p .0) in
       let rest : heldByAll (suc (ownerOf i place)) (length ms) owners ≡ heldIn ms = ap (λ (n : ℕ). heldByAll n (length ms) owners) (sym (owner-next i place)) ∙ owned (suc place) ms (p .1) in
       rw (here, rest)
 
@@ -69,7 +69,7 @@ module _ (owners : List ℕ) (i : ℕ) (r : Row) where
 
 -- the needs in the book are what the row's messages hold
 pub needs-held : (s : State) (i place : ℕ) (ms : List Reassembly) → needsIn (notesFrom s i place ms) ≡ heldIn ms
-unfolding needsIn notesFrom heldIn heldFor
+unfolding needsIn notesFrom heldIn messageBlocks
 needs-held s i place [] = refl
 needs-held s i place (m ∷ ms) = rw (note-need s i place m, needs-held s i (suc place) ms)
 

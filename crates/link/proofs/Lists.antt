@@ -11,8 +11,8 @@ use Rattle.numbers.specs.Bytes.{pick}
 use Rattle.numbers.proofs.Choices.{either, onTest}
 use Rattle.blocks.specs.Map.{heldByAll, freeIn}
 use Rattle.session.specs.declared.Row.{Row}
-use Rattle.link.specs.Book.{Command, call, Event, opening, isAccepted, isAck, Page, Book, emptyBook, there, lowestIn, needsOf, bookAfter, bookOf, dueOf, names, shuts, untilClosed, naming, ownOf, ModestIn, Modest}
-use Rattle.link.specs.Claim.{State, stateAfter, eventOf, run, endOf, commandOf, isOpen, blocksOf, DeliversDue, AllDelivered, opensIt, Demand}
+use Rattle.link.specs.Book.{Command, call, Event, opening, isAccepted, isAck, Page, Book, emptyBook, there, lowestNotIn, needsOf, bookAfter, bookOf, dueOf, names, shuts, untilClosed, naming, ownOf, ModestIn, Modest}
+use Rattle.link.specs.Claim.{State, stateAfter, eventOf, run, stateAfterAll, commandOf, isOpen, blocksOf, DeliversDue, AllDelivered, seenBy, Demand}
 use Rattle.link.specs.Pages.{rowOf, pages, Sane}
 
 -- cases on a test, with what it says
@@ -45,8 +45,8 @@ pub record Laws : Type 0 where
   pub same-after : (s₁ s₂ : State) (c : Command) (i : ℕ) → Sane s₁ → Sane s₂ → Alike i s₁ s₂ → T (names i c)
       → ModestIn (pages s₂ i) c (eventOf s₂ c .answer) → T (not (shuts i (eventOf s₁ c))) → Alike i (stateAfter s₁ c) (stateAfter s₂ c)
   -- an opening's ACK enters a row under the lowest id
-  pub opens : (s : State) (o : Command) → Sane s → opensIt o ≡ opening → T (isAck (eventOf s o .answer))
-      → (r : Row) × (rowOf (stateAfter s o) (lowestIn (pages s) 255 1) ≡ some r)
+  pub opens : (s : State) (o : Command) → Sane s → seenBy o ≡ opening → T (isAck (eventOf s o .answer))
+      → (r : Row) × (rowOf (stateAfter s o) (lowestNotIn (pages s) 255 1) ≡ some r)
   -- a state within the rules shows its sessions and their blocks
   pub shown : (s : State) (i : ℕ) → Sane s → isOpen s i ≡ there (pages s i)
   pub holds : (s : State) (i : ℕ) (p : Page) → Sane s → pages s i ≡ some p → (blocksOf s i ≡ needsOf p) × (needsOf p ≤ p .cap)
@@ -67,13 +67,13 @@ own-mine i e l t =
     rw (is-true (names i (e .command)) t)
     (ap (λ (y : List Event). e ∷ y) (onTest (λ (b : Bool). naming i (pick b [] (untilClosed i l)) ≡ pick b [] (naming i (untilClosed i l))) (shuts i e) (λ _. refl) (λ _. refl)))
 
-run-append : (s : State) (a b : List Command) → run s (a ++ b) ≡ run s a ++ run (endOf s a) b
-unfolding run endOf
+run-append : (s : State) (a b : List Command) → run s (a ++ b) ≡ run s a ++ run (stateAfterAll s a) b
+unfolding run stateAfterAll
 run-append s [] b = refl
 run-append s (c ∷ a) b = ap (λ (x : List Event). eventOf s c ∷ x) (run-append (stateAfter s c) a b)
 
-end-append : (s : State) (a b : List Command) → endOf s (a ++ b) ≡ endOf (endOf s a) b
-unfolding endOf
+end-append : (s : State) (a b : List Command) → stateAfterAll s (a ++ b) ≡ stateAfterAll (stateAfterAll s a) b
+unfolding stateAfterAll
 end-append s [] b = refl
 end-append s (c ∷ a) b = end-append (stateAfter s c) a b
 
@@ -129,14 +129,14 @@ module _ (L : Laws) where
   noted-next : (s : State) (c : Command) → Sane s → bookAfter (pages s) (eventOf s c .command) (eventOf s c .answer) ≡ pages (stateAfter s c)
   noted-next s c g = ap (λ (x : Command). bookAfter (pages s) x (eventOf s c .answer)) (event-command s c) ∙ L .told s c g
 
-  book-agrees : (s : State) (cs : List Command) → Sane s → bookOf (pages s) (run s cs) ≡ pages (endOf s cs)
-  unfolding bookOf run endOf
+  book-agrees : (s : State) (cs : List Command) → Sane s → bookOf (pages s) (run s cs) ≡ pages (stateAfterAll s cs)
+  unfolding bookOf run stateAfterAll
   book-agrees s [] k = refl
   book-agrees s (c ∷ cs) k = ap (λ (b : Book). bookOf b (run (stateAfter s c) cs)) (noted-next s c k) ∙ book-agrees (stateAfter s c) cs (L .sane s c k)
 
   -- every state after a list keeps the state rules
-  pub all-sane : (s : State) (cs : List Command) → Sane s → Sane (endOf s cs)
-  unfolding endOf
+  pub all-sane : (s : State) (cs : List Command) → Sane s → Sane (stateAfterAll s cs)
+  unfolding stateAfterAll
   all-sane s [] k = k
   all-sane s (c ∷ cs) k = all-sane (stateAfter s c) cs (L .sane s c k)
 
@@ -150,24 +150,24 @@ module _ (L : Laws) where
 
   -- from any state within the rules whose book is empty
   module _ (s₀ : State) (k₀ : Sane s₀) (e₀ : pages s₀ ≡ emptyBook) where
-    shows : (l : List Command) → bookOf emptyBook (run s₀ l) ≡ pages (endOf s₀ l)
+    shows : (l : List Command) → bookOf emptyBook (run s₀ l) ≡ pages (stateAfterAll s₀ l)
     shows l = ap (λ (b : Book). bookOf b (run s₀ l)) (sym e₀) ∙ book-agrees s₀ l k₀
 
-    alone : (before rest : List Command) (o : Command) → opensIt o ≡ opening → T (isAck (eventOf (endOf s₀ before) o .answer))
-        → (let i : ℕ = lowestIn (bookOf emptyBook (run s₀ before)) 255 1 in
-        let s₁ : State = stateAfter (endOf s₀ before) o in
+    alone : (before rest : List Command) (o : Command) → seenBy o ≡ opening → T (isAck (eventOf (stateAfterAll s₀ before) o .answer))
+        → (let i : ℕ = lowestNotIn (bookOf emptyBook (run s₀ before)) 255 1 in
+        let s₁ : State = stateAfter (stateAfterAll s₀ before) o in
         let own : List Event = ownOf i (run s₁ rest) in
         Modest i (bookOf emptyBook (run s₀ (before ++ o ∷ []))) (run s₁ (map commandOf own))
         → run s₀ (before ++ o ∷ map commandOf own) ≡ run s₀ (before ++ o ∷ []) ++ own)
-    unfolding run endOf
+    unfolding run stateAfterAll
     alone before rest o v a m =
-        let s : State = endOf s₀ before in
+        let s : State = stateAfterAll s₀ before in
         let s₁ : State = stateAfter s o in
         let ks : Sane s = all-sane s₀ before k₀ in
         let k₁ : Sane s₁ = L .sane s o ks in
-        let i : ℕ = lowestIn (bookOf emptyBook (run s₀ before)) 255 1 in
+        let i : ℕ = lowestNotIn (bookOf emptyBook (run s₀ before)) 255 1 in
         let r = L .opens s o ks v a in
-        let row : rowOf s₁ i ≡ some (r .0) = ap (λ (b : Book). rowOf s₁ (lowestIn b 255 1)) (shows before) ∙ r .1 in
+        let row : rowOf s₁ i ≡ some (r .0) = ap (λ (b : Book). rowOf s₁ (lowestNotIn b 255 1)) (shows before) ∙ r .1 in
         let own : List Event = ownOf i (run s₁ rest) in
         let b₁ : bookOf emptyBook (run s₀ (before ++ o ∷ [])) ≡ pages s₁ = shows (before ++ o ∷ []) ∙ ap pages (end-append s₀ before (o ∷ [])) in
         let again : run s₁ (map commandOf own) ≡ own
@@ -178,11 +178,11 @@ module _ (L : Laws) where
     -- the demand
     pub demanded : (cs : List Command) → Demand s₀ cs
     demanded cs =
-        let k : Sane (endOf s₀ cs) = all-sane s₀ cs k₀ in
+        let k : Sane (stateAfterAll s₀ cs) = all-sane s₀ cs k₀ in
         record {
-          sessions = λ i. L .shown (endOf s₀ cs) i k ∙ ap (λ (b : Book). there (b i)) (sym (shows cs));
-          room = λ i p q. L .holds (endOf s₀ cs) i p k (ap (λ (b : Book). b i) (sym (shows cs)) ∙ q);
-          blocks = L .all-blocks (endOf s₀ cs) k;
+          sessions = λ i. L .shown (stateAfterAll s₀ cs) i k ∙ ap (λ (b : Book). there (b i)) (sym (shows cs));
+          room = λ i p q. L .holds (stateAfterAll s₀ cs) i p k (ap (λ (b : Book). b i) (sym (shows cs)) ∙ q);
+          blocks = L .all-blocks (stateAfterAll s₀ cs) k;
           delivered = subst (λ (b : Book). AllDelivered b (run s₀ cs)) e₀ (all-delivered s₀ cs k₀);
           isolated = λ before rest o q v a m. alone before rest o v a m;
         }

@@ -9,12 +9,12 @@ use lib.Dec.{eqb, leb}
 use lib.ListN.{length, getD, getD-replicate}
 use borrow.Author.Tests.{eq-eqb, leb-true, le-leb, not-true}
 use Rattle.numbers.proofs.Choices.{and-both, either}
-use Rattle.blocks.specs.Map.{heldBy as blocksOf}
+use Rattle.blocks.specs.Map.{heldBy}
 use Rattle.frame.specs.declared.SessionId.{SessionId}
 use Rattle.session.specs.declared.Reassembly.{Reassembly}
 use Rattle.session.specs.declared.Row.{Row}
 use Rattle.session.specs.Rows.{noRow, noReassembly, openedRow, messageAt}
-use Rattle.session.specs.Decide.{heldBy, heldIn}
+use Rattle.session.specs.Decide.{messageBlocks, heldIn}
 use Rattle.link.specs.declared.Link.{Link}
 use Rattle.link.specs.declared.Grant.{Grant}
 use Rattle.link.specs.State.{all, indexOf, ownerOf, versionAllowed, blocksFit, freeFits, rowFits, rulesHold, grantFits, withRow, lowestFree}
@@ -42,7 +42,7 @@ new-allowed = refl
 
 -- a new row keeps the rules of a row
 opened-facts : (major : ℕ) (i : SessionId) (g c v hash : ℕ) → g ≤ c → c ≤ 256 → versionAllowed major v ≡ true → RowFacts major (openedRow i g c v hash)
-unfolding heldIn heldBy
+unfolding heldIn messageBlocks
 opened-facts major i g c v hash a b e = record {
   offer = a;
   most = b;
@@ -54,7 +54,7 @@ opened-facts major i g c v hash a b e = record {
 }
 
 -- a free row has no blocks
-free-blocks : (major : ℕ) (owners : List ℕ) (k : ℕ) (r : Row) → r .id .0 ≡ 0 → rowFits major owners k r ≡ true → (q : ℕ) → q < length (r .messages) → blocksOf (ownerOf k q) owners ≡ 0
+free-blocks : (major : ℕ) (owners : List ℕ) (k : ℕ) (r : Row) → r .id .0 ≡ 0 → rowFits major owners k r ≡ true → (q : ℕ) → q < length (r .messages) → heldBy (ownerOf k q) owners ≡ 0
 unfolding rowFits freeFits
 free-blocks major owners k r z e q h =
     let p = and-both (blocksFit owners k r) _ e in
@@ -82,7 +82,7 @@ opened-rules l g v eight five e f w a =
     let new : rowFits major (l .owners) k r ≡ true
     = facts-fit major k (l .owners) r facts (λ y. omega (arith, lowest-between rs eight .0)) (say-blocks (l .owners) k r (λ j h.
     free-blocks major (l .owners) k (getD rs k noRow) (index-row 0 rs b) old j (omega (arith, five-at rs k five b))
-    ∙ sym (ap heldBy (getD-replicate 5 j noReassembly noReassembly h) ∙ held-idle noReassembly refl))) in
+    ∙ sym (ap messageBlocks (getD-replicate 5 j noReassembly noReassembly h) ∙ held-idle noReassembly refl))) in
     say-rules (withRow l k r) (record {
       ids = distinct-set rs k r (λ _ j h _. index-missing (i .0) rs (lowest-of-eight rs eight .unused) j h) (rules .ids);
       rows = rows-set major (l .owners) (l .owners) rs k r b new (λ j h n t. t) (rules .rows);

@@ -16,8 +16,8 @@ use Rattle.session.specs.Rows.{noRow}
 use Rattle.link.specs.declared.Grant.{Grant}
 use Rattle.link.specs.State.{indexOf, lowestFree}
 use Rattle.link.specs.Call.{After, admits}
-use Rattle.link.specs.Book.{Request, Command, call, Seen, opening, isAck, there, lowestIn}
-use Rattle.link.specs.Claim.{State, stepped, stateAfter, eventOf, isOpen, opensIt}
+use Rattle.link.specs.Book.{Request, Command, call, Seen, opening, isAck, there, lowestNotIn}
+use Rattle.link.specs.Claim.{State, stepped, stateAfter, eventOf, isOpen, seenBy}
 use Rattle.link.specs.Pages.{rowOf, pages, Sane}
 use Rattle.link.proofs.Calls.{newRow, entered, admitted, Called, refused, nacked, acked, called}
 use Rattle.link.proofs.Shown.{shown}
@@ -29,12 +29,12 @@ unfolding isOpen
 there-row s i h = sym (shown s i) ∙ rw (ne-eqb i 0 (λ z. omega arith))
 
 -- the lowest id not in the book is the lowest not in a row
-pub lowest-same : (s : State) → lowestIn (pages s) 255 1 ≡ lowestFree 255 1 (s .link .rows)
+pub lowest-same : (s : State) → lowestNotIn (pages s) 255 1 ≡ lowestFree 255 1 (s .link .rows)
 lowest-same s = lowest-book (pages s) (s .link .rows) (λ i h. there-row s i h) 255 1 (omega arith)
 
 -- a new session's row is found under that id
 pub entered-row : (s : State) (g : Grant) (v : ℕ) → Sane s → admits (s .link .rows) g ≡ true
-    → rowOf (record { link = entered (s .link) g v; pool = s .pool }) (lowestIn (pages s) 255 1) ≡ some (newRow (s .link) g v)
+    → rowOf (record { link = entered (s .link) g v; pool = s .pool }) (lowestNotIn (pages s) 255 1) ≡ some (newRow (s .link) g v)
 unfolding rowOf isOpen
 entered-row s g v k a =
     let rs : List Row = s .link .rows in
@@ -49,7 +49,7 @@ entered-row s g v k a =
 
 -- what the state after a call owes, where its answer is an ACK
 abbrev Enters : State → After → Type 0
-Enters s w = T (isAck (w .answer)) → (r : Row) × (rowOf (record { link = w .link; pool = w .pool }) (lowestIn (pages s) 255 1) ≡ some r)
+Enters s w = T (isAck (w .answer)) → (r : Row) × (rowOf (record { link = w .link; pool = w .pool }) (lowestNotIn (pages s) 255 1) ≡ some r)
 
 enters : (s : State) (q : Request) → Sane s → {w : After} → Called (s .link) (s .pool) (q .input) (q .out) (q .grant) opening w → Enters s w
 enters s q k (refused b) = λ z. absurd z
@@ -57,7 +57,7 @@ enters s q k nacked = λ z. absurd z
 enters s q k (acked t a v) = λ _. (_, entered-row s (q .grant) _ k a)
 
 -- the law
-pub opens-row : (s : State) (o : Command) → Sane s → opensIt o ≡ opening → T (isAck (eventOf s o .answer))
-    → (r : Row) × (rowOf (stateAfter s o) (lowestIn (pages s) 255 1) ≡ some r)
+pub opens-row : (s : State) (o : Command) → Sane s → seenBy o ≡ opening → T (isAck (eventOf s o .answer))
+    → (r : Row) × (rowOf (stateAfter s o) (lowestNotIn (pages s) 255 1) ≡ some r)
 opens-row s (call q) k e =
     enters s q k (subst (λ (x : Seen). Called (s .link) (s .pool) (q .input) (q .out) (q .grant) x (stepped s q)) e (called (s .link) (s .pool) (q .input) (q .out) (q .grant)))

@@ -10,7 +10,7 @@ use lib.Dec.{eqb, leb}
 use lib.ListN.{length, getD}
 use borrow.Author.Tests.{leb-true, eqb-true, not-true, le-leb, eq-eqb, ne-eqb}
 use Rattle.numbers.proofs.Choices.{and-yes, and-both, split, either}
-use Rattle.blocks.specs.Map.{heldBy as blocksOf}
+use Rattle.blocks.specs.Map.{heldBy}
 use Rattle.frame.specs.declared.ServiceType.{ServiceType}
 use Rattle.frame.specs.declared.MessageId.{MessageId}
 use Rattle.frame.specs.Rules.{listedService}
@@ -19,7 +19,7 @@ use Rattle.session.specs.declared.Reassembly.{Reassembly}
 use Rattle.session.specs.declared.Row.{Row}
 use Rattle.session.specs.Rows.{noReassembly, noRow, messageAt, announced, shortened}
 use Rattle.session.specs.Rules.{isRunning}
-use Rattle.session.specs.Decide.{placeOf, heldBy, heldOf, sized}
+use Rattle.session.specs.Decide.{placeOf, messageBlocks, heldOf, sized}
 use Rattle.link.specs.State.{indexOf, ownerOf, all, roomFits, versionAllowed, serviceAt, messageFits, unsettledFits, blocksFit, rowFits}
 use Rattle.link.specs.Claim.{State, isOpen}
 use Rattle.link.specs.Pages.{Sane}
@@ -194,7 +194,7 @@ pub record OpenFacts (s : State) (i n : ℕ) : Type 0 where
   pub five : length (getD (s .link .rows) n noRow .messages) ≡ 5
   pub facts : RowFacts (s .link .version .major) (getD (s .link .rows) n noRow)
   pub fits : (place : ℕ) → place < 5 → (b : Bool) × Fits b (messageAt (getD (s .link .rows) n noRow) place)
-  pub room : (place : ℕ) → place < 5 → blocksOf (ownerOf n place) (s .link .owners) ≡ heldBy (messageAt (getD (s .link .rows) n noRow) place)
+  pub room : (place : ℕ) → place < 5 → heldBy (ownerOf n place) (s .link .owners) ≡ messageBlocks (messageAt (getD (s .link .rows) n noRow) place)
 
 pub open-facts : (s : State) (i : ℕ) → Sane s → isOpen s i ≡ true → OpenFacts s i (indexOf i (s .link .rows))
 open-facts s i k o =

@@ -20,7 +20,7 @@ use Rattle.session.specs.declared.Running.{Running}
 use Rattle.session.specs.declared.Row.{Row}
 use Rattle.session.specs.Rows.{noReassembly, notRunning, withMessages, withMessageAt, messageAt, settledRow, announced, shortened, withService, ackedRow, startedRow, stoppedRow, droppedRow}
 use Rattle.session.specs.Rules.{versionFits, isRunning, serviceFits}
-use Rattle.session.specs.Decide.{placeOf, needOf, heldBy, heldIn, heldOf, shareOf, sized}
+use Rattle.session.specs.Decide.{placeOf, needOf, messageBlocks, heldIn, heldOf, shareOf, sized}
 use Rattle.link.specs.State.{versionAllowed, serviceAt}
 use Rattle.link.proofs.Each.{set-each, sum-set}
 use Rattle.link.proofs.RowFacts.{place-below, place-service, runsAt, Fits, fits-none, fits-announced, fits-shortened, RowFacts}
@@ -28,12 +28,12 @@ use Rattle.link.proofs.RowFacts.{place-below, place-service, runsAt, Fi
 -- ---- held blocks
 
 -- the sum over the messages after one of them was set
-held-set : (ms : List Reassembly) (k : ℕ) (m : Reassembly) → k < length ms → heldIn (set ms k m) + heldBy (getD ms k noReassembly) ≡ heldIn ms + heldBy m
+held-set : (ms : List Reassembly) (k : ℕ) (m : Reassembly) → k < length ms → heldIn (set ms k m) + messageBlocks (getD ms k noReassembly) ≡ heldIn ms + messageBlocks m
 unfolding heldIn
-held-set ms k m h = sum-set heldIn heldBy (λ a l. refl) ms k m noReassembly h
+held-set ms k m h = sum-set heldIn messageBlocks (λ a l. refl) ms k m noReassembly h
 
-pub held-idle : (m : Reassembly) → m .live ≡ false → heldBy m ≡ 0
-unfolding heldBy
+pub held-idle : (m : Reassembly) → m .live ≡ false → messageBlocks m ≡ 0
+unfolding messageBlocks
 held-idle m e = rw e
 
 -- ---- versions
@@ -65,7 +65,7 @@ pub record RowKept (major others place : ℕ) (r after : Row) (freed claimed : �
   pub held : heldOf after + freed ≡ heldOf r + claimed
   pub shares : others + shareOf r ≤ 256 → others + shareOf after ≤ 256
   pub elsewhere : (k : ℕ) → (k ≡ place → ⊥) → messageAt after k ≡ messageAt r k
-  pub here : heldBy (messageAt after place) + freed ≡ heldBy (messageAt r place) + claimed
+  pub here : messageBlocks (messageAt after place) + freed ≡ messageBlocks (messageAt r place) + claimed
 
 -- a row with another version and message counter and other streams
 abbrev remade : Row → ℕ → ℕ → Running → Running → Row
@@ -166,14 +166,14 @@ module _ (major others p : ℕ) where
   module _ (below : p < 5) where
     -- a message set
     kept-set : (r : Row) (m : Reassembly) (freed claimed : ℕ) → RowFacts major r → (r .version ≡ 0 → m .live ≡ false) → Fits (runsAt r p) m
-        → heldBy m + freed ≡ heldBy (messageAt r p) + claimed → heldOf r + claimed ≤ r .cap + freed
+        → messageBlocks m + freed ≡ messageBlocks (messageAt r p) + claimed → heldOf r + claimed ≤ r .cap + freed
         → ((n : ℕ) → n + freed ≡ heldOf r + claimed → others + shareOf r ≤ 256 → others + max n (r .guarantee) ≤ 256)
         → Kept r (withMessageAt r p m) freed claimed
     unfolding isRunning
     kept-set r m freed claimed f z o e c w =
         let ms : List Reassembly = r .messages in
         let at : p < length ms = omega (arith, f .five) in
-        let sum : heldIn (set ms p m) + heldBy (messageAt r p) ≡ heldOf r + heldBy m = held-set ms p m at in
+        let sum : heldIn (set ms p m) + messageBlocks (messageAt r p) ≡ heldOf r + messageBlocks m = held-set ms p m at in
         let same : length (set ms p m) ≡ length ms = length-set ms p m in
         let h : heldIn (set ms p m) + freed ≡ heldOf r + claimed = omega arith in
         subst (λ (x : Row). Kept r x freed claimed) (sym (message-at-is r p m below)) (record {
@@ -190,7 +190,7 @@ module _ (major others p : ℕ) where
           held = h;
           shares = w (heldIn (set ms p m)) h;
           elsewhere = λ k n. getD-set-other ms p k m noReassembly n;
-          here = ap (λ (x : Reassembly). heldBy x + freed) (getD-set-same ms p m noReassembly at) ∙ e;
+          here = ap (λ (x : Reassembly). messageBlocks x + freed) (getD-set-same ms p m noReassembly at) ∙ e;
         })
 
     -- an admitted First Frame
@@ -198,45 +198,45 @@ module _ (major others p : ℕ) where
         → (eqb (r .version) 0 ≡ false → v ≡ r .version) → isRunning r v (serviceAt p) ≡ true → totalsFit total count ≡ true → messageAt r p .live ≡ false
         → heldOf r + needOf total ≤ r .cap → others + max (heldOf r + needOf total) (r .guarantee) ≤ 256
         → Kept r (settledRow (withMessageAt r p (announced i total count)) v) 0 (needOf total)
-    unfolding heldBy isRunning
+    unfolding messageBlocks isRunning
     kept-claim r v i total count f a q s u t n c w =
         let m : Reassembly = announced i total count in
         let k : Kept r (versioned r v) 0 0 = kept-versioned r v f a q s in
         let is : settledRow (withMessageAt r p m) v ≡ withMessageAt (versioned r v) p m
         = ap (λ (x : Row). settledRow x v) (message-at-is r p m below) ∙ settled-is (withMessages r (set (r .messages) p m)) v s ∙ sym (message-at-is (versioned r v) p m below) in
-        let d : heldBy (messageAt r p) ≡ 0 = held-idle (messageAt r p) n in
+        let d : messageBlocks (messageAt r p) ≡ 0 = held-idle (messageAt r p) n in
         subst (λ (x : Row). Kept r x 0 (needOf total)) (sym is)
         (kept-then 0 (needOf total) (omega arith) (omega arith) k
         (kept-set (versioned r v) m 0 (needOf total) (k .facts) (λ z. absurd (omega arith)) (fits-announced _ i total count u t) (omega arith) (omega arith) (λ k g _. omega arith)))
 
     -- a message that gives way to one that is not larger
     kept-put : (r : Row) (m : Reassembly) (freed : ℕ) → RowFacts major r → Fits (runsAt r p) m → (messageAt r p .live ≡ false → m .live ≡ false)
-        → heldBy m + freed ≡ heldBy (messageAt r p) → Kept r (withMessageAt r p m) freed 0
+        → messageBlocks m + freed ≡ messageBlocks (messageAt r p) → Kept r (withMessageAt r p m) freed 0
     kept-put r m freed f o l e =
         kept-set r m freed 0 f (λ z. l (f .unsettled z p (omega (arith, f .five)))) o (omega arith) (omega (arith, f .within)) (λ k g h. omega arith)
 
     -- a message dropped or delivered
-    pub kept-drop : (r : Row) → RowFacts major r → Kept r (droppedRow r p) (heldBy (messageAt r p)) 0
-    kept-drop r f = kept-put r noReassembly (heldBy (messageAt r p)) f (fits-none _) (λ _. refl) (omega (arith, held-idle noReassembly refl))
+    pub kept-drop : (r : Row) → RowFacts major r → Kept r (droppedRow r p) (messageBlocks (messageAt r p)) 0
+    kept-drop r f = kept-put r noReassembly (messageBlocks (messageAt r p)) f (fits-none _) (λ _. refl) (omega (arith, held-idle noReassembly refl))
 
     -- a message fed
     pub kept-fed : (r : Row) (size : ℕ) → RowFacts major r → sized (messageAt r p) size ≡ true → (messageAt r p .frames ≡ 1 → ⊥)
         → Kept r (withMessageAt r p (shortened (messageAt r p) size)) 0 0
-    unfolding heldBy
+    unfolding messageBlocks
     kept-fed r size f s n =
         kept-put r (shortened (messageAt r p) size) 0 f (fits-shortened (runsAt r p) (messageAt r p) size (f .messages p (omega (arith, f .five))) s n) (λ l. l) (omega arith)
 
 -- a service stopped: its message goes with it
 pub kept-stop : (major others : ℕ) (r : Row) (s : ServiceType) → RowFacts major r
-    → RowKept major others (placeOf (s .0)) r (ackedRow (stoppedRow (droppedRow r (placeOf (s .0))) s)) (heldBy (messageAt r (placeOf (s .0)))) 0
+    → RowKept major others (placeOf (s .0)) r (ackedRow (stoppedRow (droppedRow r (placeOf (s .0))) s)) (messageBlocks (messageAt r (placeOf (s .0)))) 0
 kept-stop major others r s f =
     let p : ℕ = placeOf (s .0) in
     let b : p < 5 = place-below (s .0) in
     let d : Row = droppedRow r p in
-    let k : RowKept major others p r d (heldBy (messageAt r p)) 0 = kept-drop major others p b r f in
+    let k : RowKept major others p r d (messageBlocks (messageAt r p)) 0 = kept-drop major others p b r f in
     let gone : messageAt d p .live ≡ false
     = ap (λ (y : Row). messageAt y p .live) (message-at-is r p noReassembly b) ∙ ap (λ (y : Reassembly). y .live) (getD-set-same (r .messages) p noReassembly noReassembly (omega (arith, f .five))) in
-    kept-then major others p (heldBy (messageAt r p)) 0 (omega arith) (omega arith) k
+    kept-then major others p (messageBlocks (messageAt r p)) 0 (omega arith) (omega arith) k
     (kept-service major others p d s notRunning (k .facts) (λ j h l e.
     let q : j ≡ p = sym (place-service j h) ∙ ap placeOf e in
     absurd (true≢false (sym l ∙ subst (λ (y : ℕ). messageAt d y .live ≡ false) (sym q) gone))))

@@ -15,9 +15,9 @@ use Rattle.blocks.specs.Map.{Outside}
 use Rattle.session.specs.declared.Row.{Row}
 use Rattle.frame.specs.declared.SessionId.{SessionId}
 use Rattle.session.specs.Rows.{noRow, freeRow, openedRow}
-use Rattle.session.specs.Decide.{heldBy, heldIn, heldOf, shareOf}
+use Rattle.session.specs.Decide.{messageBlocks, heldIn, heldOf, shareOf}
 use Rattle.link.specs.State.{indexOf, ownerOf, sharesIn, distinctIds, lowestFree}
-use Rattle.link.specs.Book.{Book, there, lowestIn}
+use Rattle.link.specs.Book.{Book, there, lowestNotIn}
 use Rattle.link.specs.Pages.{FiveEach}
 use Rattle.link.proofs.Each.{set-each, sum-set}
 
@@ -260,13 +260,13 @@ lowest-between rs e = let w = lowest-of-eight rs e in (w .from, omega (arith, w 
 
 -- a book of the same ids has the same lowest
 pub lowest-book : (b : Book) (rs : List Row) → ((i : ℕ) → 1 ≤ i → there (b i) ≡ ltb (indexOf i rs) (length rs))
-    → (n k : ℕ) → 1 ≤ k → lowestIn b n k ≡ lowestFree n k rs
-unfolding lowestIn
+    → (n k : ℕ) → 1 ≤ k → lowestNotIn b n k ≡ lowestFree n k rs
+unfolding lowestNotIn
 lowest-book b rs f zero k h = sym (lowest-none k rs)
 lowest-book b rs f (suc n) k h =
     same-or-not (indexOf k rs) (length rs)
-    (λ e. ap (λ (t : Bool). pick t (lowestIn b n (suc k)) k) (f k h ∙ le-ltb (indexOf k rs) (length rs) (omega arith)) ∙ sym (lowest-here n k rs e))
-    (λ d. ap (λ (t : Bool). pick t (lowestIn b n (suc k)) k) (f k h ∙ lt-ltb (indexOf k rs) (length rs) (omega (arith, index-below k rs)))
+    (λ e. ap (λ (t : Bool). pick t (lowestNotIn b n (suc k)) k) (f k h ∙ le-ltb (indexOf k rs) (length rs) (omega arith)) ∙ sym (lowest-here n k rs e))
+    (λ d. ap (λ (t : Bool). pick t (lowestNotIn b n (suc k)) k) (f k h ∙ lt-ltb (indexOf k rs) (length rs) (omega (arith, index-below k rs)))
     ∙ lowest-book b rs f n (suc k) (omega arith) ∙ sym (lowest-later n k rs d))
 
 -- ---- 5. five places, and the rows that are made
@@ -279,12 +279,12 @@ five-set (q ∷ rs) (suc k) r f e = (f .0, five-set rs k r (f .1) e)
 
 -- a free row holds nothing
 pub free-held : heldOf freeRow ≡ 0
-unfolding heldIn heldBy
+unfolding heldIn messageBlocks
 free-held = refl
 
 -- a new row holds nothing
 pub opened-held : (i : SessionId) (g c v h : ℕ) → heldOf (openedRow i g c v h) ≡ 0
-unfolding heldIn heldBy
+unfolding heldIn messageBlocks
 opened-held i g c v h = refl
 
 -- ---- the owners' numbers

@@ -14,7 +14,7 @@ use Rattle.session.specs.declared.Row.{Row}
 use Rattle.session.specs.declared.Act.{Act}
 use Rattle.session.specs.Rows.{noRow, noReassembly, freeRow, messageAt}
 use Rattle.session.specs.Rules.{isRunning}
-use Rattle.session.specs.Decide.{placeOf, needOf, heldBy as heldFor, heldOf, shareOf}
+use Rattle.session.specs.Decide.{placeOf, needOf, messageBlocks, heldOf, shareOf}
 use Rattle.blocks.specs.Map.{heldBy, heldByAll, freeIn, claimed, released}
 use Rattle.blocks.proofs.Contents.{append-length}
 use Rattle.blocks.proofs.Counts.{claim-gives, claim-lowers, claim-leaves, claim-length, release-takes, release-leaves, release-one, release-raises, release-length}
@@ -173,7 +173,7 @@ module _ (s : State) (i n : ℕ) (k : Sane s) (f : OpenFacts s i n) where
         fits = facts-fit major n owners after (x .facts) (λ z. f .some-id (sym (f .mine) ∙ sym same ∙ z)) (say-blocks owners n after (λ q h.
             same-or-not q place
             (λ z. rw z (omega (arith, x .here, f .room place below)))
-            (λ d. let b : q < 5 = omega (arith, x .facts .five) in apart n q b (λ z. d (z .1)) ∙ f .room q b ∙ sym (ap heldFor (x .elsewhere q d)))));
+            (λ d. let b : q < 5 = omega (arith, x .facts .five) in apart n q b (λ z. d (z .1)) ∙ f .room q b ∙ sym (ap messageBlocks (x .elsewhere q d)))));
         five = x .facts .five;
         ids = λ _. same;
         shares = x .shares (omega (arith, rules .shares, share-below (s .link .rows) n (f .below)));
@@ -186,7 +186,7 @@ module _ (s : State) (i n : ℕ) (k : Sane s) (f : OpenFacts s i n) where
   put-same below x = put-kept map below x refl (λ j q h d. refl) refl refl
 
   -- the message's blocks freed
-  put-freed : {place : ℕ} {after : Row} → place < 5 → RowKept major room place r after (heldFor (messageAt r place)) 0
+  put-freed : {place : ℕ} {after : Row} → place < 5 → RowKept major room place r after (messageBlocks (messageAt r place)) 0
       → Put s n after (released (ownerOf n place) (ownerOf n place) map)
   put-freed {place} below x =
       let o : ℕ = ownerOf n place in
@@ -220,7 +220,7 @@ module _ (s : State) (i n : ℕ) (k : Sane s) (f : OpenFacts s i n) where
         size = release-length low high map;
         fits = and-yes (blocksFit (released low high map) n freeRow) _ (say-blocks (released low high map) n freeRow (λ q h.
             release-takes low high (ownerOf n q) map (owner-some n q) (owner-inside n q h .0) (owner-inside n q h .1)
-            ∙ sym (ap heldFor (getD-replicate 5 q noReassembly noReassembly h) ∙ held-idle noReassembly refl))) refl;
+            ∙ sym (ap messageBlocks (getD-replicate 5 q noReassembly noReassembly h) ∙ held-idle noReassembly refl))) refl;
         five = refl;
         ids = λ z. absurd (z refl);
         shares = omega (arith, free-held, rules .shares);

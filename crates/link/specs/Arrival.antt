@@ -12,7 +12,7 @@ use Rattle.sender.specs.declared.Outgoing.{Outgoing}
 use Rattle.sender.specs.Sender.{fitsOne, countOf, frameAt, bytesOf, Accepted}
 use Rattle.link.specs.State.{grantFits}
 use Rattle.link.specs.Book.{Request, Command, call, names, isAccepted}
-use Rattle.link.specs.Claim.{State, stateAfter, eventOf, endOf, isOpen, DeliversIt}
+use Rattle.link.specs.Claim.{State, stateAfter, eventOf, stateAfterAll, isOpen, DeliversIt}
 use Rattle.link.specs.Pages.{Sane}
 
 -- an input with the k-th frame of a message at its front
@@ -50,4 +50,4 @@ ArrivesWhole =
     → (first : Request) → Fronts o m 0 first → T (isAccepted (eventOf s (call first) .answer))
     → (between : List Command) → Between o m (countOf o m) 1 between
     → (last : Request) → Brings o m (countOf o m) last → length m ≤ length (last .out)
-    → (let t : State = endOf (stateAfter s (call first)) between in DeliversIt m (last .out) (eventOf t (call last) .out) (eventOf t (call last) .answer))
+    → (let t : State = stateAfterAll (stateAfter s (call first)) between in DeliversIt m (last .out) (eventOf t (call last) .out) (eventOf t (call last) .answer))

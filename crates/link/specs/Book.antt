@@ -142,13 +142,13 @@ abbrev pub there : {A : Type 0} → Option A → Bool
 there none = false
 there (some a) = true
 
-abbrev pub written : Book → ℕ → Option Page → Book
-written b i p j = pick (eqb i j) p (b j)
+abbrev pub withPage : Book → ℕ → Option Page → Book
+withPage b i p j = pick (eqb i j) p (b j)
 
 -- "the lowest id from 1 to 255 not in the book": so many ids from k on are tried
-unfoldable pub lowestIn : Book → ℕ → ℕ → ℕ
-lowestIn b zero k = 0
-lowestIn b (suc n) k = pick (there (b k)) (lowestIn b n (suc k)) k
+unfoldable pub lowestNotIn : Book → ℕ → ℕ → ℕ
+lowestNotIn b zero k = 0
+lowestNotIn b (suc n) k = pick (there (b k)) (lowestNotIn b n (suc k)) k
 
 -- "its offer's G and C"
 abbrev pub newPage : Grant → Page
@@ -204,8 +204,8 @@ pageAfterIf (some p) q a = pageAfter p q a
 
 -- the book after a call: "An opening's ACK enters a session"; "Any other call changes nothing."
 abbrev pub noted : Book → Grant → Answer → Seen → Book
-noted b g a opening = pick (isAck a) (written b (lowestIn b 255 1) (some (newPage g))) b
-noted b g a (within i q) = written b i (pageAfterIf (b i) q a)
+noted b g a opening = pick (isAck a) (withPage b (lowestNotIn b 255 1) (some (newPage g))) b
+noted b g a (within i q) = withPage b i (pageAfterIf (b i) q a)
 noted b g a nothing = b
 
 abbrev pub bookAfter : Book → Command → Answer → Book

@@ -14,7 +14,7 @@ use Rattle.frame.specs.declared.Reading.{Reading}
 use Rattle.frame.specs.declared.Reading.the-variants as reading
 use Rattle.frame.specs.Read.{readOf}
 use Rattle.payload.specs.declared.Payload.{Payload}
-use Rattle.payload.specs.declared.Payload.the-variants as payload
+use Rattle.payload.specs.declared.Payload.the-variants as bson
 use Rattle.payload.specs.declared.version.Version.{Version}
 use Rattle.payload.specs.declared.version.VersionText.{VersionText}
 use Rattle.payload.specs.declared.version.VersionText.the-variants as text
@@ -63,8 +63,8 @@ wishOfText text.Bad = bad
 
 -- "or no protocolVersion"; "an unreadable payload": "On service frames 30 to 34 lead to the NAKs above."
 abbrev pub wishOfPayload : List ℕ → Payload → Wish
-wishOfPayload p (payload.Accepted t) = unless (t .version .found) old (wishOfText (versionOf (part p (t .version .at) (t .version .length))))
-wishOfPayload p (payload.Refused n) = bad
+wishOfPayload p (bson.Accepted t) = unless (t .version .found) old (wishOfText (versionOf (part p (t .version .at) (t .version .length))))
+wishOfPayload p (bson.Refused n) = bad
 
 -- "If M is below 5, or there is no payload, or no protocolVersion, or one below 5.0.0"
 unfoldable pub wishOf : ℕ → List ℕ → Wish
@@ -105,8 +105,8 @@ module _ (l : Link) (p o : List ℕ) (consumed : ℕ) (g : Grant) where
 
 -- what a control frame's payload says of a hash: "(version 5: hashId; below: exactly 4 raw bytes)". Below 5 any payload is readable
 abbrev pub saidBy : Payload → Said
-saidBy (payload.Accepted t) = record { readable = true; found = t .hash .found; hash = t .hash .value }
-saidBy (payload.Refused n) = record { readable = false; found = false; hash = 0 }
+saidBy (bson.Accepted t) = record { readable = true; found = t .hash .found; hash = t .hash .value }
+saidBy (bson.Refused n) = record { readable = false; found = false; hash = 0 }
 
 unfoldable pub saidOf : Row → List ℕ → Said
 saidOf r p = pick (eqb (r .version) 5) (saidBy (payloadOf p)) (record { readable = true; found = eqb (length p) 4; hash = valueBe (part p 0 4) })

@@ -15,7 +15,7 @@ use Rattle.link.specs.declared.Answer.{Answer}
 use Rattle.link.specs.declared.Answer.the-variants as answer
 use Rattle.link.specs.State.{indexOf, ownerOf, settingsFit, createdLink}
 use Rattle.link.specs.Call.{After, callOf}
-use Rattle.link.specs.Book.{Request, Command, call, Event, Seen, opening, seenOf, isAccepted, isAck, Page, Book, emptyBook, there, lowestIn, needsOf, bookOf, bookAfter, dueOf, ownOf, Modest}
+use Rattle.link.specs.Book.{Request, Command, call, Event, Seen, opening, seenOf, isAccepted, isAck, Page, Book, emptyBook, there, lowestNotIn, needsOf, bookOf, bookAfter, dueOf, ownOf, Modest}
 
 -- the link and its pool
 pub record State : Type 0 where
@@ -36,9 +36,9 @@ unfoldable pub run : State → List Command → List Event
 run s [] = []
 run s (c ∷ cs) = eventOf s c ∷ run (stateAfter s c) cs
 
-unfoldable pub endOf : State → List Command → State
-endOf s [] = s
-endOf s (c ∷ cs) = endOf (stateAfter s c) cs
+unfoldable pub stateAfterAll : State → List Command → State
+stateAfterAll s [] = s
+stateAfterAll s (c ∷ cs) = stateAfterAll (stateAfter s c) cs
 
 abbrev pub commandOf : Event → Command
 commandOf e = e .command
@@ -82,25 +82,25 @@ unfoldable pub AllDelivered : Book → List Event → Type 0
 AllDelivered b [] = Unit {0}
 AllDelivered b (e ∷ l) = (T (isAccepted (e .answer)) → DeliversDue (dueOf b (e .command)) e) × AllDelivered (bookAfter b (e .command) (e .answer)) l
 
-abbrev pub opensIt : Command → Seen
-opensIt (call q) = seenOf (q .input)
+abbrev pub seenBy : Command → Seen
+seenBy (call q) = seenOf (q .input)
 
 -- the demand, for a state to start from and a list of calls
 pub record Demand (s₀ : State) (cs : List Command) : Type 0 where
   -- "the book is kept": "the open sessions are the book's"
-  pub sessions : (i : ℕ) → isOpen (endOf s₀ cs) i ≡ there (bookOf emptyBook (run s₀ cs) i)
+  pub sessions : (i : ℕ) → isOpen (stateAfterAll s₀ cs) i ≡ there (bookOf emptyBook (run s₀ cs) i)
   -- "room is accounted for to the block": "each holds exactly the blocks that its messages in the book need .. at most its cap"
-  pub room : (i : ℕ) (p : Page) → bookOf emptyBook (run s₀ cs) i ≡ some p → (blocksOf (endOf s₀ cs) i ≡ needsOf p) × (needsOf p ≤ p .cap)
+  pub room : (i : ℕ) (p : Page) → bookOf emptyBook (run s₀ cs) i ≡ some p → (blocksOf (stateAfterAll s₀ cs) i ≡ needsOf p) × (needsOf p ≤ p .cap)
   -- "held and free blocks make 256"
-  pub blocks : heldByAll 1 40 (endOf s₀ cs .link .owners) + freeIn (endOf s₀ cs .link .owners) ≡ 256
+  pub blocks : heldByAll 1 40 (stateAfterAll s₀ cs .link .owners) + freeIn (stateAfterAll s₀ cs .link .owners) ≡ 256
   -- "a message is delivered exactly when it is complete as exactly its bytes"
   pub delivered : AllDelivered emptyBook (run s₀ cs)
   -- "no session can change what another one sees within its guarantee": i is the id that the opening o enters, own the later calls
   -- that name it, up to its closing; without all other later calls each of them gets the same answer and the same out bytes
-  pub isolated : (before rest : List Command) (o : Command) → cs ≡ before ++ o ∷ rest → opensIt o ≡ opening
-      → T (isAck (eventOf (endOf s₀ before) o .answer))
-      → let i : ℕ = lowestIn (bookOf emptyBook (run s₀ before)) 255 1 in
-      let s₁ : State = stateAfter (endOf s₀ before) o in
+  pub isolated : (before rest : List Command) (o : Command) → cs ≡ before ++ o ∷ rest → seenBy o ≡ opening
+      → T (isAck (eventOf (stateAfterAll s₀ before) o .answer))
+      → let i : ℕ = lowestNotIn (bookOf emptyBook (run s₀ before)) 255 1 in
+      let s₁ : State = stateAfter (stateAfterAll s₀ before) o in
       let own : List Event = ownOf i (run s₁ rest) in
       Modest i (bookOf emptyBook (run s₀ (before ++ o ∷ []))) (run s₁ (map commandOf own))
       → run s₀ (before ++ o ∷ map commandOf own) ≡ run s₀ (before ++ o ∷ []) ++ own

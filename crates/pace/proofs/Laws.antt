@@ -16,7 +16,7 @@ use Rattle.lines.specs.Decimal.{decimalOf}
 use Rattle.lines.proofs.Digits.{width-most}
 use Rattle.text.proofs.Lists.{take-min, drop-min}
 use Rattle.text.specs.declared.Text.{Text}
-use Rattle.text.specs.Said.{said, Started, Appended}
+use Rattle.text.specs.Said.{said, Started, Longer}
 use Rattle.link.specs.declared.Link.{Link}
 use Rattle.link.specs.declared.Grant.{Grant}
 use Rattle.link.specs.declared.Answer.{Answer}
@@ -127,7 +127,7 @@ module _ (script : List ℕ) {size f first g rest calls : ℕ} (is-size : size �
 -- ---- a number and a newline
 
 -- such a text is far from being cut
-pub number-said : (n : ℕ) {t u r : Text} → n < 2 ^ 64 → Started [] t → Appended t (decimalOf n) u → Appended u (10 ∷ []) r → said r ≡ lineOf n
+pub number-said : (n : ℕ) {t u r : Text} → n < 2 ^ 64 → Started [] t → Longer t (decimalOf n) u → Longer u (10 ∷ []) r → said r ≡ lineOf n
 number-said n {t} {u} h begun digits ended =
     let w : length (decimalOf n) ≤ 20 = width-most 19 n (omega (arith, h)) in
     let none : said t ≡ [] = begun .says in

@@ -5,7 +5,7 @@ ghost use mathlib.Core.List.{List};
 ghost use lib.Dec.{eqb, ltb};
 ghost use lib.ListN.{length};
 ghost use Rattle.numbers.specs.Bytes.{pick};
-ghost use Rattle.blocks.specs.Map.{neededFor, heldBy, claimed, released, placeOf};
+ghost use Rattle.blocks.specs.Map.{neededFor, heldBy, claimed, released, nthNumber};
 ghost use Rattle.blocks.specs.Pool.{appended, delivered};
 ghost use Rattle.room.specs.Room.{ifWhole, placeIn};
 use blocks::Found;

@@ -15,7 +15,7 @@ use Rattle.blocks.specs.Map.{heldBy, heldByAll, freeIn}
 use Rattle.blocks.proofs.Counts.{held-mine, held-not, all-none}
 use Rattle.session.specs.declared.Reassembly.{Reassembly}
 use Rattle.session.specs.declared.Row.{Row}
-use Rattle.session.specs.Decide.{needOf, heldBy as heldFor, heldIn, heldOf, shareOf}
+use Rattle.session.specs.Decide.{needOf, messageBlocks, heldIn, heldOf, shareOf}
 use Rattle.link.specs.Pages.{FiveEach}
 use Rattle.link.specs.declared.Link.{Link}
 use Rattle.link.specs.declared.Grant.{Grant}
@@ -75,7 +75,7 @@ by-pick true a b e f g = f refl e
 by-pick false a b e f g = g refl e
 
 idle-held : (ms : List Reassembly) → noneLive ms ≡ true → heldIn ms ≡ 0
-unfolding heldIn heldFor
+unfolding heldIn messageBlocks
 idle-held [] e = refl
 idle-held (m ∷ ms) e =
     let p = and-both (not (m .live)) (noneLive ms) e in
@@ -121,7 +121,7 @@ module _ (map : List ℕ) where
 
   -- their owners have at least what the open ones need
   less : (i n : ℕ) (ms : List Reassembly) → Open i n ms ≡ true → heldIn ms ≤ heldByAll (ownerOf i n) (length ms) map
-  unfolding heldIn heldFor heldByAll holdsNeed
+  unfolding heldIn messageBlocks heldByAll holdsNeed
   less i n [] e = omega arith
   less i n (m ∷ ms) e =
       let p = and-both (holdsNeed map (ownerOf i n) m) (Open i (suc n) ms) e in
@@ -131,7 +131,7 @@ module _ (map : List ℕ) where
 
   -- and if they have no more, each has exactly that
   exact : (i n : ℕ) (ms : List Reassembly) → Open i n ms ≡ true → heldByAll (ownerOf i n) (length ms) map ≤ heldIn ms → Exact i n ms ≡ true
-  unfolding heldIn heldFor heldByAll holdsNeed
+  unfolding heldIn messageBlocks heldByAll holdsNeed
   exact i n [] e h = refl
   exact i n (m ∷ ms) e h =
       let p = and-both (holdsNeed map (ownerOf i n) m) (Open i (suc n) ms) e in

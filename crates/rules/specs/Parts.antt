@@ -34,9 +34,9 @@ indexIn number [] = 0
 indexIn number (id ∷ ids) = pick (eqb id number) 0 (suc (indexIn number ids))
 
 -- the lowest of so many numbers from k on that is no id; 0 if each is one
-unfoldable pub lowestIn : ℕ → ℕ → List ℕ → ℕ
-lowestIn zero k ids = 0
-lowestIn (suc n) k ids = pick (eqb (indexIn k ids) (length ids)) k (lowestIn n (suc k) ids)
+unfoldable pub lowestUnused : ℕ → ℕ → List ℕ → ℕ
+lowestUnused zero k ids = 0
+lowestUnused (suc n) k ids = pick (eqb (indexIn k ids) (length ids)) k (lowestUnused n (suc k) ids)
 
 -- no id is this one
 abbrev pub missingIn : ℕ → List ℕ → Bool

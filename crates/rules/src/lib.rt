@@ -9,7 +9,7 @@ ghost use lib.ListN.{length, drop};
 ghost use Rattle.numbers.specs.Bytes.{pick};
 ghost use Rattle.session.specs.Decide.{heldOf, shareOf};
 ghost use Rattle.link.specs.State.{allFrom, settingsFit, roomFits, versionAllowed, serviceAt, messageFits, unsettledFits, freeFits, grantFits, guardOf};
-ghost use Rattle.rules.specs.Parts.{noneLive, sessionFits, idsOf, indexIn, lowestIn, missingIn, distinctIn, holdsNeed, openFit, rowSound, ofSession, shareSum, Summed, Surveyed};
+ghost use Rattle.rules.specs.Parts.{noneLive, sessionFits, idsOf, indexIn, lowestUnused, missingIn, distinctIn, holdsNeed, openFit, rowSound, ofSession, shareSum, Summed, Surveyed};
 use blocks::Owner;
 use frame::ServiceType;
 use frame::SessionId;
@@ -39,7 +39,7 @@ pub fn index_of(ids: [u8; 8], id: SessionId) -> usize
 
 // The lowest id from 1 to 255 that no row has; 0 if each has a row, which eight rows cannot bring about.
 pub fn lowest_free(ids: [u8; 8]) -> SessionId
-    ensures { λ r. ⌜ r .0 ≡ lowestIn 255 1 ids ⌝ }
+    ensures { λ r. ⌜ r .0 ≡ lowestUnused 255 1 ids ⌝ }
 {
     let mut number: usize = 1;
     while number < 256 {

@@ -7,9 +7,9 @@ use lib.ListN.{length, getD, drop, drop-of-length-le}
 use lib.Seq.{drop-cons}
 use Rattle.session.specs.declared.Reassembly.{Reassembly}
 use Rattle.session.specs.Rows.{noReassembly}
-use Rattle.session.specs.Decide.{heldBy, heldIn}
+use Rattle.session.specs.Decide.{messageBlocks, heldIn}
 
-pub held-at : (ms : List Reassembly) (i : ℕ) → i < length ms → heldIn (drop i ms) ≡ heldBy (getD ms i noReassembly) + heldIn (drop (i + 1) ms)
+pub held-at : (ms : List Reassembly) (i : ℕ) → i < length ms → heldIn (drop i ms) ≡ messageBlocks (getD ms i noReassembly) + heldIn (drop (i + 1) ms)
 unfolding heldIn
 held-at ms i h = rw (add-one i, drop-cons ms i noReassembly)
 

@@ -7,7 +7,7 @@ ghost use mathlib.Core.Bool.{Bool};
 ghost use Prim.Native.Nat.{_+_, _-_, _^_, _<_, _≤_, min, max};
 ghost use lib.ListN.{length};
 ghost use Rattle.session.specs.Rules.{replyVersion, versionFits, mtuFits, isRunning, serviceFits, takesBeats, commandFits, barredBy};
-ghost use Rattle.session.specs.Decide.{placeOf, needOf, heldBy, heldIn, heldOf, shareOf, firstOf, dueNumber, sized, nextFor, singleOf, contentOf, startable, startOf, endable, hashOf, endOf, controlOf, rowAfter};
+ghost use Rattle.session.specs.Decide.{placeOf, needOf, messageBlocks, heldIn, heldOf, shareOf, firstOf, dueNumber, sized, nextFor, singleOf, contentOf, startable, startingOf, endable, hashOf, endingOf, controlOf, rowAfter};
 ghost use Rattle.session.specs.Rows.{messageAt, noReassembly, freeRow, openedRow, ackedRow, settledRow, admittedRow, fedRow, droppedRow, withService, startedRow, stoppedRow};
 use frame::Header;
 use frame::MessageId;
@@ -351,7 +351,7 @@ pub fn need_of(total: u32) -> usize
 }
 
 fn need_of_message(message: Reassembly) -> usize
-    ensures { λ r. ⌜ (r ≡ heldBy message) × (r ≤ 16777216) ⌝ }
+    ensures { λ r. ⌜ (r ≡ messageBlocks message) × (r ≤ 16777216) ⌝ }
 {
     if message.live {
         need_of(message.total)
@@ -496,7 +496,7 @@ fn is_startable(row: Row, service: ServiceType) -> bool
 }
 
 fn start(row: Row, header: Header, said: Said) -> Act
-    ensures { λ r. ⌜ r ≡ startOf row header said ⌝ }
+    ensures { λ r. ⌜ r ≡ startingOf row header said ⌝ }
 {
     if is_startable(row, header.service) & ((row.version != 5) | said.readable) {
         return Act::Start;
@@ -525,7 +525,7 @@ fn hash_of(row: Row, service: ServiceType) -> u32
 }
 
 fn end(row: Row, header: Header, said: Said) -> Act
-    ensures { λ r. ⌜ r ≡ endOf row header said ⌝ }
+    ensures { λ r. ⌜ r ≡ endingOf row header said ⌝ }
 {
     if !is_endable(row, header.service) {
         return Act::NoEnd(false);

@@ -17,7 +17,7 @@ use Rattle.lines.specs.Decimal.{decimalOf}
 use Rattle.numbers.proofs.Choices.{split}
 use Rattle.lines.proofs.Digits.{width-most}
 use Rattle.text.specs.declared.Text.{Text}
-use Rattle.text.specs.Said.{said, Started, Appended, Marked}
+use Rattle.text.specs.Said.{said, Started, Longer, Marked}
 use Rattle.text.specs.Pieces.{fitting, putInto, countOf, checkFrom}
 use Rattle.text.proofs.Lists.{take-min, put-front}
 use lib.Seq.{drop-cons}
@@ -50,7 +50,7 @@ cut-twice (suc n) (x ∷ a) b = ap (λ (t : List ℕ). x ∷ t) (cut-twice n a b
 
 -- two pieces, one behind the other
 module _ {u r : Text} {a b : List ℕ} where
-  pub then : {t : Text} → Appended t a u → Appended u b r → Appended t (a ++ b) r
+  pub then : {t : Text} → Longer t a u → Longer u b r → Longer t (a ++ b) r
   then {t} f g =
       record {
         says = g .says ∙ ap (λ (s : List ℕ). take 4096 (s ++ b)) (f .says) ∙ cut-twice 4096 (said t ++ a) b ∙ ap (take 4096) (append-assoc (said t) a b);
@@ -60,7 +60,7 @@ module _ {u r : Text} {a b : List ℕ} where
         size = g .size ∙ f .size;
       }
 
-  pub started : Started a u → Appended u b r → Started (a ++ b) r
+  pub started : Started a u → Longer u b r → Started (a ++ b) r
   started f g =
       record {
         says = g .says ∙ ap (λ (s : List ℕ). take 4096 (s ++ b)) (f .says) ∙ cut-twice 4096 a b;
@@ -70,7 +70,7 @@ module _ {u r : Text} {a b : List ℕ} where
         size = g .size ∙ f .size;
       }
 
-  pub marked : {t : Text} {n : ℕ} → Appended t a u → Marked u b n r → Marked t (a ++ b) n r
+  pub marked : {t : Text} {n : ℕ} → Longer t a u → Marked u b n r → Marked t (a ++ b) n r
   marked {t} f g =
       record {
         says = g .says ∙ ap (λ (s : List ℕ). take 4096 (s ++ b)) (f .says) ∙ cut-twice 4096 (said t ++ a) b ∙ ap (take 4096) (append-assoc (said t) a b);
@@ -81,8 +81,8 @@ module _ {u r : Text} {a b : List ℕ} where
       }
 
 -- the same piece by another name
-pub renamed : {t r : Text} {a b : List ℕ} → a ≡ b → Appended t a r → Appended t b r
-renamed {t} {r} e f = subst (λ (s : List ℕ). Appended t s r) e f
+pub renamed : {t r : Text} {a b : List ℕ} → a ≡ b → Longer t a r → Longer t b r
+renamed {t} {r} e f = subst (λ (s : List ℕ). Longer t s r) e f
 
 -- what a writer of `lines` put to the front of a buffer, and how many characters it says these are
 module _ (d o : List ℕ) {a : Encoded} {r : List ℕ} (e : encoded a r ≡ writtenOf d o) {n : ℕ} (h : n ≡ countOf a) where

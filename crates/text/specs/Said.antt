@@ -18,7 +18,7 @@ pub record Started (piece : List ℕ) (r : Text) : Type 0 where
   pub size : r .size ≡ 0
 
 -- r says what t said and this behind it, cut at 4,096 characters, and spells the same bytes at the same place
-pub record Appended (t : Text) (piece : List ℕ) (r : Text) : Type 0 where
+pub record Longer (t : Text) (piece : List ℕ) (r : Text) : Type 0 where
   pub says : said r ≡ take 4096 (said t ++ piece)
   pub within : r .end ≤ 4096
   pub ends : r .end ≡ length (said r)

@@ -11,7 +11,7 @@ ghost use lib.ListN.{length, take};
 ghost use Rattle.numbers.specs.Bytes.{pick, part as partOf};
 ghost use Rattle.lines.specs.Hex.{hexOf};
 ghost use Rattle.lines.specs.Decimal.{decimalOf};
-ghost use Rattle.text.specs.Said.{Started, Appended, Marked};
+ghost use Rattle.text.specs.Said.{Started, Longer, Marked};
 ghost use Rattle.text.specs.Pieces.{fitting, putInto, checkOf, countOf, digitsOf};
 use lines::Encoded;
 
@@ -106,14 +106,14 @@ impl Text {
 
     // The same text.
     pub fn same(mut self) -> Text
-        ensures { λ r. ⌜ Appended self [] r ⌝ }
+        ensures { λ r. ⌜ Longer self [] r ⌝ }
     {
         self.end = numbers::least(self.end, ROOM);
         self
     }
 
     pub fn put(mut self, text: &[u8]) -> Text
-        ensures { λ r. ⌜ Appended self (now (text .entry)) r ⌝ }
+        ensures { λ r. ⌜ Longer self (now (text .entry)) r ⌝ }
     {
         let mut chars = self.chars;
         let end = put(&mut chars, self.end, text);
@@ -123,13 +123,13 @@ impl Text {
     }
 
     pub fn byte(self, byte: u8) -> Text
-        ensures { λ r. ⌜ Appended self (byte ∷ []) r ⌝ }
+        ensures { λ r. ⌜ Longer self (byte ∷ []) r ⌝ }
     {
         self.put(&[byte])
     }
 
     pub fn decimal(self, number: u64) -> Text
-        ensures { λ r. ⌜ Appended self (decimalOf number) r ⌝ }
+        ensures { λ r. ⌜ Longer self (decimalOf number) r ⌝ }
     {
         // the largest number of 64 bits has 20 digits
         let mut digits = [0u8; 20];
@@ -139,20 +139,20 @@ impl Text {
 
     // A byte, then a number in decimal.
     pub fn number(self, before: u8, number: u64) -> Text
-        ensures { λ r. ⌜ Appended self (before ∷ decimalOf number) r ⌝ }
+        ensures { λ r. ⌜ Longer self (before ∷ decimalOf number) r ⌝ }
     {
         self.byte(before).decimal(number)
     }
 
     // The same for numbers of 8 and of 32 bits.
     pub fn number8(self, before: u8, number: u8) -> Text
-        ensures { λ r. ⌜ Appended self (before ∷ decimalOf number) r ⌝ }
+        ensures { λ r. ⌜ Longer self (before ∷ decimalOf number) r ⌝ }
     {
         self.number(before, number as u64)
     }
 
     pub fn number32(self, before: u8, number: u32) -> Text
-        ensures { λ r. ⌜ Appended self (before ∷ decimalOf number) r ⌝ }
+        ensures { λ r. ⌜ Longer self (before ∷ decimalOf number) r ⌝ }
     {
         self.number(before, number as u64)
     }
@@ -173,7 +173,7 @@ impl Text {
 
     // Two digits a byte, where these are at most 2,048.
     pub fn digits(self, bytes: &[u8]) -> Text
-        ensures { λ r. ⌜ Appended self (digitsOf (now (bytes .entry))) r ⌝ }
+        ensures { λ r. ⌜ Longer self (digitsOf (now (bytes .entry))) r ⌝ }
     {
         let mut digits = [0u8; 2048];
         let count = written(lines::bytes_to_hex(bytes, &mut digits));
@@ -182,7 +182,7 @@ impl Text {
 
     // The two digits of one byte.
     pub fn pair(self, byte: u8) -> Text
-        ensures { λ r. ⌜ Appended self (hexOf (byte ∷ [])) r ⌝ }
+        ensures { λ r. ⌜ Longer self (hexOf (byte ∷ [])) r ⌝ }
     {
         self.digits(&[byte])
     }
@@ -199,7 +199,7 @@ impl Text {
 
     // The same behind a space, `-` for no bytes.
     pub fn hex(self, size: usize) -> Text
-        ensures { λ r. ⌜ (size ≡ 0 → Appended self (32 ∷ 45 ∷ []) r) × ((size ≡ 0 → ⊥) → Marked self (32 ∷ []) size r) ⌝ }
+        ensures { λ r. ⌜ (size ≡ 0 → Longer self (32 ∷ 45 ∷ []) r) × ((size ≡ 0 → ⊥) → Marked self (32 ∷ []) size r) ⌝ }
         ensures { λ r. ⌜ r .end ≤ 4096 ⌝ }
     {
         let text = self.byte(b' ');
@@ -211,7 +211,7 @@ impl Text {
 
     // What stands between two parts of a list that begins at `start`: nothing before the first one.
     pub fn joint(self, start: usize, joint: u8) -> Text
-        ensures { λ r. ⌜ Appended self (pick (leb (self .end) start) [] (joint ∷ [])) r ⌝ }
+        ensures { λ r. ⌜ Longer self (pick (leb (self .end) start) [] (joint ∷ [])) r ⌝ }
     {
         if self.end <= start {
             return self.same();
@@ -221,7 +221,7 @@ impl Text {
 
     // Behind a list that begins at `start`: `-` where it has no part.
     pub fn listed(self, start: usize) -> Text
-        ensures { λ r. ⌜ Appended self (pick (leb (self .end) start) (45 ∷ []) []) r ⌝ }
+        ensures { λ r. ⌜ Longer self (pick (leb (self .end) start) (45 ∷ []) []) r ⌝ }
     {
         if self.end <= start {
             return self.byte(b'-');

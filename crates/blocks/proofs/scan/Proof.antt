@@ -5,14 +5,14 @@ use mathlib.Core.Path.{_≡_}
 use mathlib.Core.Logic.{⊎-elim}
 use native.Mathlib.Omega.{arith}
 use lib.ListN.{length, drop}
-use Rattle.blocks.specs.Map.{placeOf}
+use Rattle.blocks.specs.Map.{nthNumber}
 use Rattle.blocks.proofs.Turns.{find-here, find-later, find-not, find-end}
 use borrow.Author.Needs.{needs}
 use Rattle.blocks.proofs.scan.Statement.{statement}
 use Rattle.blocks.proofs.scan.Tie as tie
 
 abbrev Inv-loop : tie.InvT-loop
-Inv-loop map owner n left₀ i₀ left i = (i ≤ length map) × (i + placeOf owner left (drop i map) ≡ placeOf owner n map)
+Inv-loop map owner n left₀ i₀ left i = (i ≤ length map) × (i + nthNumber owner left (drop i map) ≡ nthNumber owner n map)
 
 abbrev μ-loop : tie.MeasureT-loop
 μ-loop map owner n left₀ i₀ left i = length map - i

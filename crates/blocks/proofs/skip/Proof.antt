@@ -4,14 +4,14 @@ use Prim.Native.Nat.{_≤_, _+_, _-_}
 use mathlib.Core.Path.{_≡_}
 use native.Mathlib.Omega.{arith}
 use lib.ListN.{length, drop, length-take, length-drop}
-use Rattle.blocks.specs.Map.{placeOf}
+use Rattle.blocks.specs.Map.{nthNumber}
 use Rattle.blocks.proofs.Turns.{group-pass}
 use borrow.Author.Needs.{needs}
 use Rattle.blocks.proofs.skip.Statement.{statement}
 use Rattle.blocks.proofs.skip.Tie as tie
 
 abbrev Inv-loop : tie.InvT-loop
-Inv-loop map owner n group left₀ from₀ left from = (from ≤ length map) × (from + placeOf owner left (drop from map) ≡ placeOf owner n map)
+Inv-loop map owner n group left₀ from₀ left from = (from ≤ length map) × (from + nthNumber owner left (drop from map) ≡ nthNumber owner n map)
 
 abbrev μ-loop : tie.MeasureT-loop
 μ-loop map owner n group left₀ from₀ left from = length map - from

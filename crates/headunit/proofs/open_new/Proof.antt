@@ -4,7 +4,7 @@ use mathlib.Core.Path.{_≡_, _∙_, sym, ap}
 use native.Mathlib.Omega.{arith}
 use borrow.Author.Tests.{not-true, not-false}
 use Rattle.link.specs.State.{indexOf, lowestFree}
-use Rattle.rules.specs.Parts.{indexIn, lowestIn}
+use Rattle.rules.specs.Parts.{indexIn, lowestUnused}
 use Rattle.rules.proofs.Ids.{index-ids, lowest-ids}
 use borrow.Author.Needs.{needs}
 use Rattle.headunit.proofs.open_new.Statement.{statement}
@@ -25,7 +25,7 @@ opened-new-requires c κs = let l = (c .before .before .before .before .before .
     let s = (c .before .before .before .before .before .before .before .pre .1 .1) in
     let found = (c .before .before .before .before .before .is-admitted .ensures) l s .1 (not-false (c .before .before .before .before .before .is-admitted .result) (c .before .before .before .before .if1 .left)) in
     let at : (c .before .before .index-of .result) ≡ indexOf 0 (l .rows) = (c .before .before .index-of .ensures .0) ∙ ap (indexIn 0) (s .names) ∙ index-ids 0 (l .rows) in
-    let lowest : (c .before .lowest-free .result) .0 ≡ lowestFree 255 1 (l .rows) = (c .before .lowest-free .ensures) ∙ ap (lowestIn 255 1) (s .names) ∙ lowest-ids 255 1 (l .rows) in
+    let lowest : (c .before .lowest-free .result) .0 ≡ lowestFree 255 1 (l .rows) = (c .before .lowest-free .ensures) ∙ ap (lowestUnused 255 1) (s .names) ∙ lowest-ids 255 1 (l .rows) in
     (omega (arith, found, at), (at, ((c .before .before .before .before .before .before .before .pre .0), lowest)))
 
 returns-2 : tie.Need-returns-2

@@ -1,17 +1,17 @@
 -- `session::start` meets its contract: each return by its test.
 -- Assumes nothing.
 use Prim.Native.Nat.{_-_}
-use Rattle.session.specs.Decide.{startOf}
+use Rattle.session.specs.Decide.{startingOf}
 use borrow.Author.Needs.{needs}
 use Rattle.session.proofs.start.Statement.{statement}
 use Rattle.session.proofs.start.Tie as tie
 
 returns : tie.Need-returns
-unfolding startOf
+unfolding startingOf
 returns c = rw (← (c .before .before .before .is-startable .ensures), (c .if1 .taken))
 
 returns-2 : tie.Need-returns-2
-unfolding startOf
+unfolding startingOf
 returns-2 c = rw (← (c .before .before .before .is-startable .ensures), (c .if1 .left))
 
 pub start-spec : {M : Type 1} → statement M
