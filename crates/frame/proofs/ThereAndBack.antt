@@ -12,7 +12,7 @@ use borrow.Author.Tests.{leb-true, leb-false, eqb-true, le-leb, lt-leb}
 use Rattle.numbers.specs.Bytes.{part, pick, AreBytes, laid}
 use Rattle.numbers.specs.Numbers.{valueBe, bytesBe}
 use Rattle.numbers.proofs.Laws.{length-be, read-written-be, written-read-be, bytes-take, bytes-drop}
-use Rattle.numbers.proofs.Choices.{either, unless-elim}
+use Rattle.numbers.proofs.Choices.{unless-elim}
 use Rattle.frame.specs.declared.Header.{Header}
 use Rattle.frame.specs.declared.MessageId.{MessageId}
 use Rattle.frame.specs.declared.Extent.{Extent}
@@ -20,9 +20,10 @@ use Rattle.frame.specs.declared.Reading.the-variants.{Frame}
 use Rattle.frame.specs.declared.Written.the-variants.{Refused, Bytes as Done}
 use Rattle.frame.specs.Rules.{faultOf, headerSize}
 use Rattle.frame.specs.Read.{frontOf, messageOf, withMessage, frameSize, extentOf, readOf}
-use Rattle.frame.specs.Write.{messageBytes, headerBytes, frameBytes, Wrote, wrote, putOf, writeOf}
-use Rattle.frame.proofs.Laws.{fault-none, size-most, largest-range, header-range, header-length, frame-length}
-use Rattle.frame.proofs.Answers.{read-frame, is-frame, fault-front}
+use Rattle.frame.specs.Write.{messageBytes, headerBytes, frameBytes, Wrote, wrote, putOf, writeHeaderOf, writeOf}
+use Rattle.frame.specs.ReadBack.{asRead, payloadPart, ReadsAs, FrameReadBack, HeaderReadBack, WrittenAgain}
+use Rattle.frame.proofs.Laws.{fault-none, size-most, largest-range, header-range, header-length, frame-length, write-puts}
+use Rattle.frame.proofs.Answers.{read-frame, is-frame, fault-front, frame-sound, consumed-there}
 
 -- the first byte holds version, flag and type, and nothing else
 bits-back : (v k : ℕ) (b : Bool) → k ≤ 3 → ((v * 16 + pick b 8 0 + k) / 16 ≡ v) × (leb 8 ((v * 16 + pick b 8 0 + k) % 16) ≡ b) × ((v * 16 + pick b 8 0 + k) % 8 ≡ k)
@@ -52,28 +53,38 @@ module _ (h : Header) (p t : List ℕ) (sound : faultOf h ≡ 0) where
       let b = bits-back (h .version) (h .kind) (h .flag) (fault-none h sound .kind) in
       rw (b .0, b .1, b .2, size-back)
 
-  message-back : h .message .0 < 2 ^ 32 → (h .version ≡ 1 → h .message .0 ≡ 0) → messageOf (frameBytes h p ++ t) (h .version) ≡ h .message
+  message-back : h .message .0 < 2 ^ 32 → messageOf (frameBytes h p ++ t) (h .version) ≡ asRead h .message
   unfolding messageOf messageBytes
-  message-back small one =
-      either (λ (m : MessageId). m ≡ h .message) (eqb (h .version) 1) (record { 0 = 0 }) (record { 0 = valueBe (part (frameBytes h p ++ t) 8 4) })
-      (λ e. let z : h .message .0 ≡ 0 = one (eqb-true (h .version) 1 e) in ap (λ (n : ℕ). record { 0 = n }) (sym z))
-      (λ e.
-      let m : messageBytes h ≡ bytesBe 4 (h .message .0) = rw e in
-      let a : bytesBe 4 (h .size) ++ messageBytes h ++ p ++ t ≡ bytesBe 4 (h .size) ++ (bytesBe 4 (h .message .0) ++ (p ++ t)) = rw m (simp append-assoc) in
-      let d : drop 4 (bytesBe 4 (h .size) ++ messageBytes h ++ p ++ t) ≡ bytesBe 4 (h .message .0) ++ (p ++ t)
-      = rw a (drop-at (bytesBe 4 (h .size)) (bytesBe 4 (h .message .0) ++ (p ++ t)) 4 (length-be 4 (h .size))) in
-      let q : part (frameBytes h p ++ t) 8 4 ≡ bytesBe 4 (h .message .0) = ap (λ (l : List ℕ). take 4 l) d ∙ take-at (bytesBe 4 (h .message .0)) (p ++ t) 4 (length-be 4 (h .message .0)) in
-      ap (λ (n : ℕ). record { 0 = n }) (ap valueBe q ∙ read-written-be 4 (h .message .0) small))
+  message-back small = byVersion (eqb (h .version) 1) refl
+    where
+      byVersion : (one : Bool) → eqb (h .version) 1 ≡ one
+          → pick {A = MessageId} one (record { 0 = 0 }) (record { 0 = valueBe (part (frameBytes h p ++ t) 8 4) }) ≡ pick one (record { 0 = 0 }) (h .message)
+      byVersion true e = refl
+      byVersion false e =
+          let m : messageBytes h ≡ bytesBe 4 (h .message .0) = rw e in
+          let a : bytesBe 4 (h .size) ++ messageBytes h ++ p ++ t ≡ bytesBe 4 (h .size) ++ (bytesBe 4 (h .message .0) ++ (p ++ t)) = rw m (simp append-assoc) in
+          let d : drop 4 (bytesBe 4 (h .size) ++ messageBytes h ++ p ++ t) ≡ bytesBe 4 (h .message .0) ++ (p ++ t)
+          = rw a (drop-at (bytesBe 4 (h .size)) (bytesBe 4 (h .message .0) ++ (p ++ t)) 4 (length-be 4 (h .size))) in
+          let q : part (frameBytes h p ++ t) 8 4 ≡ bytesBe 4 (h .message .0)
+          = ap (λ (l : List ℕ). take 4 l) d ∙ take-at (bytesBe 4 (h .message .0)) (p ++ t) 4 (length-be 4 (h .message .0)) in
+          ap (λ (n : ℕ). record { 0 = n }) (ap valueBe q ∙ read-written-be 4 (h .message .0) small)
 
-pub read-back : (h : Header) (p t : List ℕ) → faultOf h ≡ 0 → h .size ≡ length p → h .message .0 < 2 ^ 32 → (h .version ≡ 1 → h .message .0 ≡ 0)
-    → readOf (frameBytes h p ++ t) ≡ Frame h (extentOf h)
-read-back h p t sound size small one =
-    let s = frameBytes h p ++ t in
-    let f = front-back h p t sound in
-    let l : length s ≡ headerSize (h .version) + length p + length t = length-append (frameBytes h p) t ∙ ap (λ (n : ℕ). n + length t) (frame-length h p) in
-    let g : faultOf (frontOf s) ≡ 0 = rw f (fault-front h (record { 0 = 0 }) ∙ sound) in
-    let k : frameSize (frontOf s) ≤ length s = rw (f, l) (omega arith) in
-    read-frame s (omega (arith, header-range (h .version))) g k ∙ rw (f, message-back h p t sound small one)
+-- a frame's bytes are read as its header and payload, whatever follows
+pub read-back : (h : Header) (p : List ℕ) → faultOf h ≡ 0 → h .size ≡ length p → h .message .0 < 2 ^ 32 → ReadsAs (frameBytes h p) (asRead h) p
+read-back h p sound size small = record {
+  read = λ t.
+      let s = frameBytes h p ++ t in
+      let f = front-back h p t sound in
+      let l : length s ≡ headerSize (h .version) + length p + length t = length-append (frameBytes h p) t ∙ ap (λ (n : ℕ). n + length t) (frame-length h p) in
+      let g : faultOf (frontOf s) ≡ 0 = rw f (fault-front h (record { 0 = 0 }) ∙ sound) in
+      let k : frameSize (frontOf s) ≤ length s = rw (f, l) (omega arith) in
+      read-frame s (omega (arith, header-range (h .version))) g k ∙ rw (f, message-back h p t sound small);
+  consumed = omega (arith, frame-length h p);
+  carried = λ t.
+      let z : headerSize (h .version) + h .size - headerSize (h .version) ≡ length p = omega arith in
+      let d : drop (headerSize (h .version)) (headerBytes h ++ (p ++ t)) ≡ p ++ t = drop-at (headerBytes h) (p ++ t) (headerSize (h .version)) (header-length h) in
+      rw (z, append-assoc (headerBytes h) p t, d) (take-at p t (length p) refl);
+}
 
 -- four bytes, read as a number and written again
 number-again : (r : List ℕ) → AreBytes r → 4 ≤ length r → bytesBe 4 (valueBe (take 4 r)) ≡ take 4 r
@@ -152,43 +163,45 @@ payload-length s h e p =
     let z : headerSize (f .version) + f .size - headerSize (f .version) ≡ f .size = omega arith in
     rw (q .extent, q .header, z) (length-take (f .size) (drop (headerSize (f .version)) s) ∙ omega (arith, length-drop (headerSize (f .version)) s, q .there))
 
--- what the writer left in out is read back as that header and payload, with every byte of it consumed
-pub record Arrives (h : Header) (p q : List ℕ) (n : ℕ) : Type 0 where
-  pub frame : readOf q ≡ Frame h (extentOf h)
-  pub consumed : extentOf h .consumed ≡ n
-  pub payload : part q (extentOf h .start) (extentOf h .end - extentOf h .start) ≡ p
+-- ---- from a writer's own answer
 
-pub laid-arrives : (h : Header) (p o : List ℕ) → faultOf h ≡ 0 → h .size ≡ length p → h .message .0 < 2 ^ 32 → (h .version ≡ 1 → h .message .0 ≡ 0)
-    → Arrives h p (laid (frameBytes h p) o) (length (frameBytes h p))
-laid-arrives h p o sound size small one =
-    let t : List ℕ = drop (length (frameBytes h p)) o in
-    let z : headerSize (h .version) + h .size - headerSize (h .version) ≡ length p = omega arith in
-    let d : drop (headerSize (h .version)) (headerBytes h ++ (p ++ t)) ≡ p ++ t = drop-at (headerBytes h) (p ++ t) (headerSize (h .version)) (header-length h) in
-    record {
-      frame = read-back h p t sound size small one;
-      consumed = omega (arith, frame-length h p);
-      payload = rw (z, append-assoc (headerBytes h) p t, d) (take-at p t (length p) refl);
-    }
+-- a refusal is no such answer
+pub not-done : (k : ℕ) (out left : List ℕ) (n : ℕ) → wrote (Refused k) out ≡ wrote (Done n) left → ⊥
+not-done k out left n d =
+    let a : Refused k ≡ Done n = ap (λ (w : Wrote). w .answer) d in
+    let z : _≡_ {A = ℕ} 0 1 = cc in
+    omega arith
 
--- "what the writer writes is read back the same": from the writer's own answer
-pub write-arrives : (h : Header) (p o q : List ℕ) (n : ℕ) → writeOf h p o ≡ wrote (Done n) q → h .message .0 < 2 ^ 32 → (h .version ≡ 1 → h .message .0 ≡ 0) → Arrives h p q n
+-- bytes that a writer put: it answers how many, and they stand at the front
+pub put-told : (bytes out left : List ℕ) (n : ℕ) → putOf bytes out ≡ wrote (Done n) left → take n left ≡ bytes
+put-told bytes out left n e =
+    unless-elim (λ (w : Wrote). w ≡ wrote (Done n) left → take n left ≡ bytes) (leb (length bytes) (length out)) (wrote (Refused 11) out)
+    (wrote (Done (length bytes)) (laid bytes out)) (λ t d. absurd (not-done 11 out left n d))
+    (λ t d.
+    let a : Done (length bytes) ≡ Done n = ap (λ (w : Wrote). w .answer) d in
+    let k : length bytes ≡ n = cc in
+    let l : laid bytes out ≡ left = ap (λ (w : Wrote). w .out) d in
+    rw (← k, ← l) (take-at bytes (drop (length bytes) out) (length bytes) refl)) e
+
+pub frame-read-back : FrameReadBack
 unfolding writeOf
-write-arrives h p o q n e small one =
-    unless-elim (λ (w : Wrote). w ≡ wrote (Done n) q → Arrives h p q n) (eqb (faultOf h) 0) (wrote (Refused (faultOf h)) o) _ (λ t. unwritten (faultOf h)) (λ t.
-    unless-elim (λ (w : Wrote). w ≡ wrote (Done n) q → Arrives h p q n) (eqb (h .size) (length p)) (wrote (Refused 6) o) (putOf (frameBytes h p) o) (λ u. unwritten 6) (λ u.
-    unless-elim (λ (w : Wrote). w ≡ wrote (Done n) q → Arrives h p q n) (leb (length (frameBytes h p)) (length o)) (wrote (Refused 11) o)
-    (wrote (Done (length (frameBytes h p))) (laid (frameBytes h p) o)) (λ v. unwritten 11)
-    (λ v d. done d (laid-arrives h p o (eqb-true (faultOf h) 0 t) (eqb-true (h .size) (length p) u) small one)))) e
-  where
-    unwritten : (k : ℕ) → wrote (Refused k) o ≡ wrote (Done n) q → Arrives h p q n
-    unwritten k d =
-        let a : Refused k ≡ Done n = ap (λ (w : Wrote). w .answer) d in
-        let z : _≡_ {A = ℕ} 0 1 = cc in
-        absurd (omega arith)
+frame-read-back h p out left n small e =
+    unless-elim (λ (w : Wrote). w ≡ wrote (Done n) left → ReadsAs (take n left) (asRead h) p) (eqb (faultOf h) 0) (wrote (Refused (faultOf h)) out) _
+    (λ t d. absurd (not-done (faultOf h) out left n d)) (λ t.
+    unless-elim (λ (w : Wrote). w ≡ wrote (Done n) left → ReadsAs (take n left) (asRead h) p) (eqb (h .size) (length p)) (wrote (Refused 6) out) (putOf (frameBytes h p) out)
+    (λ u d. absurd (not-done 6 out left n d))
+    (λ u d. rw (put-told (frameBytes h p) out left n d) (read-back h p (eqb-true (faultOf h) 0 t) (eqb-true (h .size) (length p) u) small))) e
 
-    done : wrote (Done (length (frameBytes h p))) (laid (frameBytes h p) o) ≡ wrote (Done n) q → Arrives h p (laid (frameBytes h p) o) (length (frameBytes h p)) → Arrives h p q n
-    done d r =
-        let a : Done (length (frameBytes h p)) ≡ Done n = ap (λ (w : Wrote). w .answer) d in
-        let k : length (frameBytes h p) ≡ n = cc in
-        let l : laid (frameBytes h p) o ≡ q = ap (λ (w : Wrote). w .out) d in
-        subst (Arrives h p q) k (subst (λ (x : List ℕ). Arrives h p x (length (frameBytes h p))) l r)
+pub header-read-back : HeaderReadBack
+unfolding writeHeaderOf
+header-read-back h p out left n small e size =
+    unless-elim (λ (w : Wrote). w ≡ wrote (Done n) left → ReadsAs (take n left ++ p) (asRead h) p) (eqb (faultOf h) 0) (wrote (Refused (faultOf h)) out) (putOf (headerBytes h) out)
+    (λ t d. absurd (not-done (faultOf h) out left n d))
+    (λ t d. rw (put-told (headerBytes h) out left n d) (read-back h p (eqb-true (faultOf h) 0 t) (sym size) small)) e
+
+pub again-written : WrittenAgain
+again-written s h e out bytes p room =
+    let sound : faultOf h ≡ 0 = frame-sound s h e p in
+    let f : frameBytes h (payloadPart s e) ≡ take (e .consumed) s = written-again s h e bytes p in
+    let n : length (take (e .consumed) s) ≡ e .consumed = length-take-le (e .consumed) s (consumed-there s h e p) in
+    write-puts h (payloadPart s e) out sound (sym (payload-length s h e p)) ∙ ap (λ (l : List ℕ). putOf l out) f ∙ rw (n, le-leb (e .consumed) (length out) room)

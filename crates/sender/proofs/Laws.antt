@@ -16,7 +16,7 @@ use Rattle.frame.specs.Write.{putOf}
 use Rattle.frame.proofs.Buffers.{laid-more, laid-length, pasted}
 use Rattle.frame.proofs.Laws.{no-fault, single-size, first-size, next-size}
 use Rattle.sender.specs.declared.Outgoing.{Outgoing}
-use Rattle.sender.specs.Sender.{Ready, Planned, headerFor, fitsOne, countOf, singleOf, firstOf, nextOf, frameAt, lastPlace, bytesOf, refused, sendOf}
+use Rattle.sender.specs.Sender.{Ready, Planned, headerFor, fitsOne, countOf, singlePlan, firstPlan, nextPlan, frameAt, lastPlace, bytesOf, refused, sendOf}
 use Rattle.sender.proofs.Counts.{chunk-range}
 
 any-info : (kind info : ℕ) → (kind ≡ 0 → ⊥) → infoFits kind info ≡ true
@@ -68,15 +68,15 @@ totals-put t c z a b l e f =
 
 -- which frame stands at a place
 module _ (o : Outgoing) (k : ℕ) (m : List ℕ) where
-  pub at-single : fitsOne o m ≡ true → frameAt o m k ≡ singleOf o m
+  pub at-single : fitsOne o m ≡ true → frameAt o m k ≡ singlePlan o m
   unfolding frameAt
   at-single e = rw e
 
-  pub at-first : fitsOne o m ≡ false → k ≡ 0 → frameAt o m k ≡ firstOf o m
+  pub at-first : fitsOne o m ≡ false → k ≡ 0 → frameAt o m k ≡ firstPlan o m
   unfolding frameAt
   at-first e z = rw (e, eq-eqb k 0 z)
 
-  pub at-next : fitsOne o m ≡ false → (k ≡ 0 → ⊥) → frameAt o m k ≡ nextOf o m k
+  pub at-next : fitsOne o m ≡ false → (k ≡ 0 → ⊥) → frameAt o m k ≡ nextPlan o m k
   unfolding frameAt
   at-next e z = rw (e, ne-eqb k 0 z)
 
@@ -92,11 +92,11 @@ module _ (o : Outgoing) (k : ℕ) (m out : List ℕ) (r : Ready o) where
       unfolding sendOf lastPlace
       sends-26 h = rw (r .version, r .service, r .chunk, several, fits, lt-leb k (countOf o m) h)
 
-      pub sends-first : k ≡ 0 → putOf (bytesOf (firstOf o m)) out ≡ sendOf o k m out
+      pub sends-first : k ≡ 0 → putOf (bytesOf (firstPlan o m)) out ≡ sendOf o k m out
       unfolding sendOf lastPlace
       sends-first z = ap (λ (f : Planned). putOf (bytesOf f) out) (sym (at-first o k m several z)) ∙ rw (r .version, r .service, r .chunk, several, fits, le-leb k (countOf o m) (omega arith))
 
-      pub sends-next : (k ≡ 0 → ⊥) → k ≤ countOf o m → putOf (bytesOf (nextOf o m k)) out ≡ sendOf o k m out
+      pub sends-next : (k ≡ 0 → ⊥) → k ≤ countOf o m → putOf (bytesOf (nextPlan o m k)) out ≡ sendOf o k m out
       unfolding sendOf lastPlace
       sends-next z h = ap (λ (f : Planned). putOf (bytesOf f) out) (sym (at-next o k m several z)) ∙ rw (r .version, r .service, r .chunk, several, fits, le-leb k (countOf o m) h)
 
@@ -105,6 +105,6 @@ module _ (o : Outgoing) (k : ℕ) (m out : List ℕ) (r : Ready o) where
     unfolding sendOf lastPlace
     sends-none h = rw (r .version, r .service, r .chunk, single, lt-leb k 0 h)
 
-    pub sends-single : k ≤ 0 → putOf (bytesOf (singleOf o m)) out ≡ sendOf o k m out
+    pub sends-single : k ≤ 0 → putOf (bytesOf (singlePlan o m)) out ≡ sendOf o k m out
     unfolding sendOf lastPlace
     sends-single h = ap (λ (f : Planned). putOf (bytesOf f) out) (sym (at-single o k m single)) ∙ rw (r .version, r .service, r .chunk, single, le-leb k 0 h)

@@ -1,2 +1,2 @@
 pub mod Sender
-pub mod Arrival
+pub mod ReadBack

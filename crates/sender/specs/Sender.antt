@@ -50,24 +50,24 @@ abbrev pub plan : Outgoing → ℕ → ℕ → List ℕ → Planned
 plan o kind info payload = record { header = headerFor o kind info (length payload); payload = payload }
 
 -- "a single frame"; of its info, "our sender writes 0"
-abbrev pub singleOf : Outgoing → List ℕ → Planned
-singleOf o m = plan o 1 0 m
+abbrev pub singlePlan : Outgoing → List ℕ → Planned
+singlePlan o m = plan o 1 0 m
 
 -- "A First Frame (total, then count)"; of its info, "our sender writes 0"
-abbrev pub firstOf : Outgoing → List ℕ → Planned
-firstOf o m = plan o 2 0 (bytesBe 4 (length m) ++ bytesBe 4 (countOf o m))
+abbrev pub firstPlan : Outgoing → List ℕ → Planned
+firstPlan o m = plan o 2 0 (bytesBe 4 (length m) ++ bytesBe 4 (countOf o m))
 
 -- the k-th chunk of the message, counted from 1; the last may be shorter
 unfoldable pub chunkOf : Outgoing → List ℕ → ℕ → List ℕ
 chunkOf o m k = part m ((k - 1) * o .chunk) (o .chunk)
 
 -- a consecutive frame: its number from its place and the count
-abbrev pub nextOf : Outgoing → List ℕ → ℕ → Planned
-nextOf o m k = plan o 3 (frameNumber k (countOf o m)) (chunkOf o m k)
+abbrev pub nextPlan : Outgoing → List ℕ → ℕ → Planned
+nextPlan o m k = plan o 3 (frameNumber k (countOf o m)) (chunkOf o m k)
 
 -- "a single frame at k = 0 if the message fits one chunk, else a First Frame at 0 and count .. frames after it"
 unfoldable pub frameAt : Outgoing → List ℕ → ℕ → Planned
-frameAt o m k = pick (fitsOne o m) (singleOf o m) (pick (eqb k 0) (firstOf o m) (nextOf o m k))
+frameAt o m k = pick (fitsOne o m) (singlePlan o m) (pick (eqb k 0) (firstPlan o m) (nextPlan o m k))
 
 -- the last k that has a frame
 unfoldable pub lastPlace : Outgoing → List ℕ → ℕ

@@ -10,7 +10,7 @@ ghost use Rattle.numbers.specs.Numbers.{bytesBe};
 ghost use Rattle.frame.specs.Rules.{faultOf};
 ghost use Rattle.frame.specs.Message.{totalsFit};
 ghost use Rattle.frame.specs.Write.{wrote, putOf, frameBytes};
-ghost use Rattle.sender.specs.Sender.{Ready, chunkFits, fitsOne, countOf, headerFor, plan, bytesOf, chunkOf, nextOf, sendOf};
+ghost use Rattle.sender.specs.Sender.{Ready, chunkFits, fitsOne, countOf, headerFor, plan, bytesOf, chunkOf, nextPlan, sendOf};
 use frame::Header;
 use frame::MessageId;
 use frame::ServiceType;
@@ -79,7 +79,7 @@ fn put_next(outgoing: Outgoing, place: u32, count: u32, message: &[u8], out: &mu
     requires { ⌜ Ready outgoing ⌝ }
     requires { ⌜ (count ≡ countOf outgoing (now message)) × (count ≤ 256) ⌝ }
     requires { ⌜ (1 ≤ place) × (place ≤ count) × (1 ≤ length (now message)) ⌝ }
-    ensures { λ r. ⌜ wrote r (now (out .exit)) ≡ putOf (bytesOf (nextOf outgoing (now (message .entry)) place)) (now (out .entry)) ⌝ }
+    ensures { λ r. ⌜ wrote r (now (out .exit)) ≡ putOf (bytesOf (nextPlan outgoing (now (message .entry)) place)) (now (out .entry)) ⌝ }
 {
     let number = frame::frame_number(place as usize, count as usize);
     let chunk = outgoing.chunk as usize;

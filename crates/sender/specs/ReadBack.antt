@@ -1,25 +1,24 @@
--- What our sender cuts arrives whole: the statement about the frames 0 to count of an accepted message. Proved in proofs/Arrival.
+-- What our sender cuts is read back: the statement about the frames 0 to the last of a message that it accepts. The user's second demand: "What you write is
+-- read back the same, save version 1's missing message id." That the link hands the message over whole is link/specs/Arrival. Proved in proofs/ReadBack.
 -- Assumes nothing.
-use Prim.Native.Nat.{ℕ, _≤_, _<_}
+use Prim.Native.Nat.{ℕ, _^_, _≤_, _<_}
 use mathlib.Core.Bool.{true, false}
-use mathlib.Core.List.{List, _++_}
+use mathlib.Core.List.{List}
 use mathlib.Core.Path.{_≡_}
 use lib.ListN.{length, take, drop}
 use Rattle.numbers.specs.Numbers.{valueBe}
-use Rattle.frame.specs.declared.Written.the-variants.{Bytes}
-use Rattle.frame.specs.declared.Reading.the-variants.{Frame}
-use Rattle.frame.specs.Read.{extentOf, readOf}
-use Rattle.frame.specs.Write.{wrote}
 use Rattle.numbers.specs.Bytes.{laid}
+use Rattle.frame.specs.declared.Written.the-variants.{Bytes}
+use Rattle.frame.specs.Write.{wrote}
+use Rattle.frame.specs.ReadBack.{asRead, ReadsAs}
 use Rattle.sender.specs.declared.Outgoing.{Outgoing}
-use Rattle.sender.specs.Sender.{fitsOne, countOf, frameAt, lastPlace, bytesOf, joined, sendOf}
+use Rattle.sender.specs.Sender.{fitsOne, countOf, frameAt, lastPlace, bytesOf, joined, sendOf, Accepted}
 
 -- the frame at a place is sent where there is room, and read back as what it was meant to be, whatever follows it
-pub record Delivered (o : Outgoing) (m : List ℕ) (k : ℕ) : Type 0 where
+pub record SentFrame (o : Outgoing) (m : List ℕ) (k : ℕ) : Type 0 where
   pub sent : (out : List ℕ) → length (bytesOf (frameAt o m k)) ≤ length out
       → sendOf o k m out ≡ wrote (Bytes (length (bytesOf (frameAt o m k)))) (laid (bytesOf (frameAt o m k)) out)
-  pub read : (behind : List ℕ) → readOf (bytesOf (frameAt o m k) ++ behind) ≡ Frame (frameAt o m k .header) (extentOf (frameAt o m k .header))
-  pub consumed : extentOf (frameAt o m k .header) .consumed ≡ length (bytesOf (frameAt o m k))
+  pub back : ReadsAs (bytesOf (frameAt o m k)) (asRead (frameAt o m k .header)) (frameAt o m k .payload)
 
 -- a message of more than one chunk
 pub record InPieces (o : Outgoing) (m : List ℕ) : Type 0 where
@@ -36,7 +35,11 @@ pub record InPieces (o : Outgoing) (m : List ℕ) : Type 0 where
   pub last : frameAt o m (countOf o m) .header .info ≡ 0
 
 -- one frame, or pieces
-pub record Arrival (o : Outgoing) (m : List ℕ) : Type 0 where
-  pub each : (k : ℕ) → k ≤ lastPlace o m → Delivered o m k
+pub record SentMessage (o : Outgoing) (m : List ℕ) : Type 0 where
+  pub each : (k : ℕ) → k ≤ lastPlace o m → SentFrame o m k
   pub single : fitsOne o m ≡ true → (frameAt o m 0 .header .kind ≡ 1) × (frameAt o m 0 .payload ≡ m)
   pub pieces : fitsOne o m ≡ false → InPieces o m
+
+-- `sender::send` and `frame::read`, for every message that 1, 3, 10 and 18 let pass; a message id has 32 bits
+abbrev pub SentReadBack : Type 0
+SentReadBack = (o : Outgoing) (m : List ℕ) → Accepted o m → o .message .0 < 2 ^ 32 → SentMessage o m

@@ -1,25 +1,26 @@
--- What our sender cuts arrives whole: each frame has no fault, so the writer puts it and the reader reads it back; the chunks join to the message.
+-- What our sender cuts is read back: each frame has no fault, so the writer puts it and the reader reads it back; the chunks join to the message.
 -- Assumes nothing.
 use Prim.Native.Nat.{ℕ, zero, suc, _+_, _-_, _^_, _≤_, _<_}
 use mathlib.Core.Path.{_≡_, refl, ap, _∙_, sym}
 use mathlib.Core.Bool.{Bool, true, false, _||_}
 use mathlib.Core.List.{List, _++_}
 use native.Mathlib.Omega.{arith}
-use lib.Dec.{eqb}
-use lib.ListN.{length}
+use lib.Dec.{eqb, leb}
+use lib.ListN.{length, take}
 use lib.Seq.{take-at, drop-at}
 use borrow.Author.Tests.{le-leb, leb-true, eqb-true, eqb-false}
 use Rattle.numbers.specs.Numbers.{bytesBe}
 use Rattle.numbers.proofs.Laws.{length-be, read-written-be}
-use Rattle.numbers.proofs.Choices.{split, either}
-use Rattle.frame.specs.Rules.{faultOf}
+use Rattle.numbers.specs.Bytes.{unless}
+use Rattle.numbers.proofs.Choices.{split, either, unless-elim}
+use Rattle.frame.specs.declared.Written.the-variants.{Bytes}
+use Rattle.frame.specs.Rules.{knownVersion, listedService, faultOf}
 use Rattle.frame.specs.Message.{frameNumber, totalsFit}
-use Rattle.frame.specs.Write.{putOf}
-use Rattle.frame.proofs.Laws.{frame-length}
-use Rattle.frame.proofs.ThereAndBack.{read-back}
+use Rattle.frame.specs.Write.{Wrote, wrote, putOf}
+use Rattle.frame.proofs.ThereAndBack.{read-back, not-done, put-told}
 use Rattle.sender.specs.declared.Outgoing.{Outgoing}
-use Rattle.sender.specs.Sender.{fitsOne, countOf, chunkOf, Planned, plan, singleOf, firstOf, nextOf, frameAt, lastPlace, bytesOf, joined, sendOf, Accepted}
-use Rattle.sender.specs.Arrival.{Delivered, InPieces, Arrival}
+use Rattle.sender.specs.Sender.{chunkFits, fitsOne, countOf, chunkOf, Planned, plan, singlePlan, firstPlan, nextPlan, frameAt, lastPlace, bytesOf, joined, refused, sendOf, Accepted}
+use Rattle.sender.specs.ReadBack.{SentFrame, InPieces, SentMessage, SentReadBack}
 use Rattle.sender.proofs.Counts.{chunk-range, totals-range, several-length, number-inner, number-last, whole-chunk, some-chunk, joined-whole}
 use Rattle.sender.proofs.Laws.{single-fault, first-fault, next-fault, totals-length, at-single, at-first, at-next}
 
@@ -96,25 +97,46 @@ module _ (o : Outgoing) (m : List ℕ) (a : Accepted o m) where
   planned : (P : Planned → Type 0) → ((kind info : ℕ) (payload : List ℕ) → P (plan o kind info payload)) → (k : ℕ) → P (frameAt o m k)
   unfolding frameAt
   planned P f k =
-      either P (fitsOne o m) (singleOf o m) _ (λ e. f 1 0 m)
-      (λ e. either P (eqb k 0) (firstOf o m) (nextOf o m k) (λ z. f 2 0 _) (λ z. f 3 _ _))
+      either P (fitsOne o m) (singlePlan o m) _ (λ e. f 1 0 m)
+      (λ e. either P (eqb k 0) (firstPlan o m) (nextPlan o m k) (λ z. f 2 0 _) (λ z. f 3 _ _))
 
-  module _ (small : o .message .0 < 2 ^ 32) (one : o .version ≡ 1 → o .message .0 ≡ 0) where
-    delivered : (k : ℕ) → k ≤ lastPlace o m → Delivered o m k
-    delivered k h =
-        let f : Planned = frameAt o m k in
-        let size : f .header .size ≡ length (f .payload) = planned (λ (g : Planned). g .header .size ≡ length (g .payload)) (λ kind info p. refl) k in
-        let id : f .header .message .0 ≡ o .message .0 = planned (λ (g : Planned). g .header .message .0 ≡ o .message .0) (λ kind info p. refl) k in
-        let v : f .header .version ≡ o .version = planned (λ (g : Planned). g .header .version ≡ o .version) (λ kind info p. refl) k in
-        record {
-          sent = λ out l. send-puts k out h ∙ rw (le-leb (length (bytesOf f)) (length out) l);
-          read = λ behind. read-back (f .header) (f .payload) behind (sound k h) size (rw id small) (λ e. id ∙ one (sym v ∙ e));
-          consumed = omega (arith, frame-length (f .header) (f .payload));
-        }
+  frame-sent : o .message .0 < 2 ^ 32 → (k : ℕ) → k ≤ lastPlace o m → SentFrame o m k
+  frame-sent small k h =
+      let f : Planned = frameAt o m k in
+      let size : f .header .size ≡ length (f .payload) = planned (λ (g : Planned). g .header .size ≡ length (g .payload)) (λ kind info p. refl) k in
+      let id : f .header .message .0 ≡ o .message .0 = planned (λ (g : Planned). g .header .message .0 ≡ o .message .0) (λ kind info p. refl) k in
+      record {
+        sent = λ out l. send-puts k out h ∙ rw (le-leb (length (bytesOf f)) (length out) l);
+        back = read-back (f .header) (f .payload) (sound k h) size (rw id small);
+      }
 
-    pub arrival : Arrival o m
-    arrival = record {
-      each = delivered;
-      single = λ e. rw (at-single o 0 m e) (refl, refl);
-      pieces = λ e. in-pieces e;
-    }
+pub sent-read-back : SentReadBack
+sent-read-back o m a small = record {
+  each = frame-sent o m a small;
+  single = λ e. rw (at-single o 0 m e) (refl, refl);
+  pieces = λ e. in-pieces o m a e;
+}
+
+-- what the sender's own answer tells: it accepts the message, the place has a frame, and the bytes that it left are that frame's
+pub record Told (o : Outgoing) (k : ℕ) (m : List ℕ) (n : ℕ) (left : List ℕ) : Type 0 where
+  pub accepted : Accepted o m
+  pub place : k ≤ lastPlace o m
+  pub bytes : take n left ≡ bytesOf (frameAt o m k)
+
+pub sent-told : (o : Outgoing) (k : ℕ) (m out left : List ℕ) (n : ℕ) → sendOf o k m out ≡ wrote (Bytes n) left → Told o k m n left
+unfolding sendOf
+sent-told o k m out left n e =
+    past (knownVersion (o .version)) 1 _ (λ version.
+    past (listedService (o .service)) 3 _ (λ service.
+    past (chunkFits (o .version) (o .chunk)) 10 _ (λ chunk.
+    past (fitsOne o m || totalsFit (length m) (countOf o m)) 18 _ (λ totals.
+    past (leb k (lastPlace o m)) 26 _ (λ place d. record {
+      accepted = record { ready = record { version = version; service = service; chunk = chunk }; totals = totals };
+      place = leb-true k (lastPlace o m) place;
+      bytes = put-told (bytesOf (frameAt o m k)) out left n d;
+    }))))) e
+  where
+    past : (test : Bool) (number : ℕ) (rest : Wrote) → (test ≡ true → rest ≡ wrote (Bytes n) left → Told o k m n left) → unless test (refused number out) rest ≡ wrote (Bytes n) left
+        → Told o k m n left
+    past test number rest f =
+        unless-elim (λ (w : Wrote). w ≡ wrote (Bytes n) left → Told o k m n left) test (refused number out) rest (λ t d. absurd (not-done number out left n d)) f
