@@ -12,7 +12,9 @@ use lib.Seq.{length-take-le, take-all, take-at, drop-at, drop-drop, set-split, p
 use Rattle.numbers.specs.Bytes.{part, putAt, laid}
 use Rattle.numbers.proofs.Laws.{put-fits}
 use Rattle.payload.specs.Append.{placed, Appended, wrote, putOf}
+use Rattle.payload.specs.Version.{sayingOf}
 use Rattle.payload.specs.declared.append.Written.the-variants.{Bytes, Refused}
+use Rattle.payload.specs.declared.version.Version.{Version}
 
 -- one more piece, right behind
 module _ (a b : List ℕ) {at n m : ℕ} {o p q : List ℕ} (room : at + length a ≤ length o) where
@@ -69,3 +71,11 @@ module _ (b o : List ℕ) (k : ℕ) (e : length b ≡ k) where
       let z : 0 + length b ≡ length b = omega arith in
       let g : placed 0 b o ≡ laid b o = rw z in
       rw (s, f .puts, g, e, le-leb k (length o) h)
+
+-- and one whose bytes say a version
+module _ (v : Version) (b o : List ℕ) where
+  pub out-of-range : v .major < 1 → wrote (Refused 10) o ≡ sayingOf v b o
+  out-of-range h = rw (lt-leb 1 (v .major) h)
+
+  pub in-range-put : 1 ≤ v .major → putOf b o ≡ sayingOf v b o
+  in-range-put h = rw (le-leb 1 (v .major) h)

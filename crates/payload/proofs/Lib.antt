@@ -10,6 +10,7 @@ pub mod VersionLaws
 pub mod VersionOrder
 pub mod Cases
 pub mod ReadBack
+mod Places
 mod Outcomes
 mod Tests
 mod Rest

@@ -1,28 +1,32 @@
--- What is written is read back by the reader, as exactly those tags. By laws about one element between any bytes before and after it; each payload is
--- then its elements one after another. Assumes nothing.
+-- What is written is read back by the reader, as exactly those tags: the statements of specs/ReadBack, at the end. By laws about one element between any
+-- bytes before and after it; each payload is then its elements one after another. Assumes nothing.
 use Prim.Native.Nat.{ℕ, suc, _+_, _-_, _^_, _≤_, _<_}
-use mathlib.Core.Path.{_≡_, refl, ap, _∙_, sym}
+use mathlib.Core.Path.{_≡_, refl, ap, _∙_, sym, subst}
 use mathlib.Core.Bool.{Bool, true, false, not, _&&_}
 use mathlib.Core.List.{List, [], _∷_, _++_, append-assoc, append-nil}
 use native.Mathlib.Omega.{arith}
-use lib.Dec.{eqb}
+use lib.Dec.{eqb, leb}
 use lib.ListN.{length, take, drop, getD, length-append}
 use lib.Seq.{take-at, drop-at, drop-drop, getD-at, getD-drop, take-append-add, append-snoc}
-use borrow.Author.Tests.{le-leb, lt-ltb, eq-eqb, ne-eqb, not-true}
+use borrow.Author.Tests.{le-leb, leb-true, lt-ltb, eq-eqb, ne-eqb, not-true}
 use Rattle.bytes.specs.Bytes.{indexOf, indexAfter, slice}
 use Rattle.lines.proofs.Turns.{both}
-use Rattle.numbers.specs.Bytes.{part}
+use Rattle.numbers.specs.Bytes.{part, laid}
 use Rattle.numbers.specs.Numbers.{valueLe, bytesLe}
+use Rattle.numbers.proofs.Choices.{split}
 use Rattle.numbers.proofs.Laws.{length-le, read-written-le}
-use Rattle.payload.specs.Tags.{protocolVersion, hashId, mtu, tagOf, clashes, noTags, withTag}
+use Rattle.payload.specs.Append.{Wrote, wrote, putOf}
+use Rattle.payload.specs.Tags.{protocolVersion, hashId, mtu, tagOf, clashes, noTags, withTag, rejectedIn}
 use Rattle.payload.specs.Walk.{readType, nests, fixedOf, booleanOf, stringOf, plainOf, keyStop, headOf, Nested, elementOf, elements, documentOf, answer, payloadOf}
-use Rattle.payload.specs.Version.{versionOf, versionText}
-use Rattle.payload.specs.Reply.{elementHead, document, int32Element, int64Element, stringElement, arrayElement, grantElements, rejectedElement, nameOf, ackPayload, serviceAckPayload, nakPayload, grantTags, ackTags, nakTags}
+use Rattle.payload.specs.Version.{versionOf, versionText, sayingOf}
+use Rattle.payload.specs.Reply.{firstKey, elementHead, document, int32Element, int64Element, stringElement, arrayElement, grantElements, rejectedElement, arrayOf, nameIn, nameOf, ackPayload, serviceAckPayload, nakPayload, grantTags, ackTags, nakTags}
+use Rattle.payload.specs.ReadBack.{IfWritten, VersionBack, TextBack, SaysAck, AckBack, ServiceAckBack, SaysNak, NakBack, rejectedOf, NaksApart}
 use Rattle.payload.specs.declared.Tags.{Tags}
 use Rattle.payload.specs.declared.Tag.the-variants.{ProtocolVersion, HashId, Mtu}
 use Rattle.payload.specs.declared.Skip.the-variants.{To}
 use Rattle.payload.specs.declared.Walk.the-variants.{Past}
 use Rattle.payload.specs.declared.Payload.the-variants.{Accepted}
+use Rattle.payload.specs.declared.append.Written.the-variants.{Bytes, Refused}
 use Rattle.payload.specs.declared.version.Version.{Version}
 use Rattle.payload.specs.declared.version.VersionText.the-variants.{Good}
 use Rattle.payload.specs.declared.reply.Parameter.{Parameter}
@@ -31,7 +35,8 @@ use Rattle.payload.proofs.Replies.{length-head, length-document, length
 use Rattle.payload.proofs.Outcomes.{payload-walked}
 use Rattle.payload.proofs.Rest.{document-elements}
 use Rattle.payload.proofs.Versions.{version-most}
-use Rattle.payload.proofs.VersionLaws.{written-read}
+use Rattle.payload.proofs.VersionLaws.{written-read, read-range, read-written}
+use Rattle.payload.proofs.Appends.{in-range-put}
 
 -- no byte of a key is 0
 abbrev noZero : List ℕ → Bool
@@ -270,8 +275,96 @@ module _ (h m : ℕ) (v : Version) (hash32 : h < 2 ^ 32) (mtu64 : m < 2 ^ 64) (m
   pub ack-version : 1 ≤ v .major → versionOf (part (ackPayload h m v) 50 (length (versionText v))) ≡ Good v
   ack-version one = ap versionOf ack-text ∙ written-read v one major8 minor8 patch8
 
--- a NAK says that rejectedParams is there, and nothing else
-pub nak-read : (p : Parameter) → payloadOf (nakPayload (nameOf p)) ≡ Accepted nakTags
+-- a NAK says where rejectedParams stands, and nothing else; there stands the array of its name
+pub nak-read : (p : Parameter) → payloadOf (nakPayload (nameOf p)) ≡ Accepted (nakTags (nameOf p))
 unfolding tagOf indexOf indexAfter slice valueLe bytesLe elementHead document stringElement arrayElement rejectedElement nakPayload fixedOf booleanOf stringOf plainOf headOf elementOf elements documentOf payloadOf
 nak-read parameter.ProtocolVersion = refl
 nak-read parameter.HashId = refl
+
+pub nak-array : (p : Parameter) → rejectedIn (nakPayload (nameOf p)) (nakTags (nameOf p)) ≡ arrayOf (nameOf p)
+unfolding bytesLe elementHead document stringElement arrayElement rejectedElement nakPayload
+nak-array parameter.ProtocolVersion = refl
+nak-array parameter.HashId = refl
+
+-- an array of one string has its name behind eleven bytes and before two
+pub name-in : (name : List ℕ) → nameIn (arrayOf name) ≡ name
+unfolding document stringElement elementHead
+name-in name =
+    let n = bytesLe 4 (5 + length (stringElement firstKey name)) in
+    let m = bytesLe 4 (length name + 1) in
+    let front : List ℕ = n ++ (0x02 ∷ 48 ∷ 0 ∷ m) in
+    let l : length front ≡ 11 = length-append n (0x02 ∷ 48 ∷ 0 ∷ m) ∙ omega (arith, length-le 4 (5 + length (stringElement firstKey name)), length-le 4 (length name + 1)) in
+    let is : arrayOf name ≡ front ++ (name ++ (0 ∷ 0 ∷ [])) = simp append-assoc in
+    let past : drop 11 (arrayOf name) ≡ name ++ (0 ∷ 0 ∷ []) = rw is (drop-at front (name ++ (0 ∷ 0 ∷ [])) 11 l) in
+    let z : length (arrayOf name) - 13 ≡ length name = omega (arith, length-document (stringElement firstKey name), length-string firstKey name) in
+    ap (λ (k : ℕ). part (arrayOf name) 11 k) z ∙ rw past (take-at name (0 ∷ 0 ∷ []) (length name) refl)
+
+-- so two names have two arrays
+pub one-array-one-name : (a b : List ℕ) → arrayOf a ≡ arrayOf b → a ≡ b
+one-array-one-name a b e = sym (name-in a) ∙ ap nameIn e ∙ name-in b
+
+one-name-one-parameter : (a b : Parameter) → nameOf a ≡ nameOf b → a ≡ b
+one-name-one-parameter parameter.ProtocolVersion parameter.ProtocolVersion e = refl
+one-name-one-parameter parameter.ProtocolVersion parameter.HashId e = absurd (omega (arith, ap length e))
+one-name-one-parameter parameter.HashId parameter.ProtocolVersion e = absurd (omega (arith, ap length e))
+one-name-one-parameter parameter.HashId parameter.HashId e = refl
+
+-- ---- the statements of specs/ReadBack
+
+-- a refusal wrote nothing
+never : {X : Type 0} {k n : ℕ} {o q : List ℕ} → wrote (Refused k) o ≡ wrote (Bytes n) q → X
+never {k = k} {n = n} g = let a : Refused k ≡ Bytes n = ap (λ (w : Wrote). w .answer) g in absurd (let z : _≡_ {A = ℕ} 0 1 = cc in omega arith)
+
+-- what a writer wrote, from its answer
+wrote-bytes : (b o : List ℕ) → IfWritten (putOf b o) (λ s. s ≡ b)
+wrote-bytes b o n q e =
+    split (leb (length b) (length o))
+    (λ t.
+    let g : wrote (Bytes (length b)) (laid b o) ≡ wrote (Bytes n) q = rw t at e in
+    let a : Bytes (length b) ≡ Bytes n = ap (λ (w : Wrote). w .answer) g in
+    let k : length b ≡ n = cc in
+    let f : laid b o ≡ q = ap (λ (w : Wrote). w .out) g in
+    rw (← k, ← f) (take-at b (drop (length b) o) (length b) refl))
+    (λ t. never (rw t at e))
+
+-- and if its bytes say a version, the version's major is at least 1
+said-bytes : (v : Version) (b o : List ℕ) → IfWritten (sayingOf v b o) (λ s. (1 ≤ v .major) × (s ≡ b))
+said-bytes v b o n q e =
+    split (leb 1 (v .major)) (λ t. (leb-true 1 (v .major) t, wrote-bytes b o n q (rw t at e)))
+    (λ t. never (rw t at e))
+
+pub version-back : VersionBack
+version-back v o u n q e =
+    let w = said-bytes v (versionText v) o n q e in
+    ap versionOf (w .1) ∙ written-read v (w .0) (u .major) (u .minor) (u .patch)
+
+pub text-written : TextBack
+text-written s v o e room =
+    let t : versionText v ≡ s = read-written s v e in
+    sym (in-range-put v (versionText v) o (read-range s v e .one)) ∙ rw (t, le-leb (length s) (length o) room)
+
+pub ack-back : AckBack
+ack-back h m v o g u n q e =
+    let w = said-bytes v (ackPayload h m v) o n q e in
+    subst (SaysAck h m v) (sym (w .1)) (record {
+      tags = ack-read h m v (g .hash) (g .mtu) (u .major) (u .minor) (u .patch);
+      version = ack-version h m v (g .hash) (g .mtu) (u .major) (u .minor) (u .patch) (w .0);
+    })
+
+pub service-ack-back : ServiceAckBack
+service-ack-back h m o g n q e = ap payloadOf (wrote-bytes (serviceAckPayload h m) o n q e) ∙ service-ack-read h m (g .hash) (g .mtu)
+
+pub nak-says : (p : Parameter) → SaysNak (nameOf p) (nakPayload (nameOf p))
+nak-says p = record { tags = nak-read p; array = nak-array p; named = ap nameIn (nak-array p) ∙ name-in (nameOf p) }
+
+pub nak-back : NakBack
+nak-back p o n q e = subst (SaysNak (nameOf p)) (sym (wrote-bytes (nakPayload (nameOf p)) o n q e)) (nak-says p)
+
+-- what a caller gets of a NAK that says a name is that name's array
+says-array : (name s : List ℕ) → SaysNak name s → rejectedOf s (payloadOf s) ≡ arrayOf name
+says-array name s w = ap (rejectedOf s) (w .tags) ∙ w .array
+
+pub naks-apart : NaksApart
+naks-apart a b o o′ n q e n′ q′ e′ same =
+    one-name-one-parameter a b
+    (one-array-one-name (nameOf a) (nameOf b) (sym (says-array (nameOf a) (take n q) (nak-back a o n q e)) ∙ same ∙ says-array (nameOf b) (take n′ q′) (nak-back b o′ n′ q′ e′)))

@@ -1,6 +1,6 @@
 -- "Only top-level tags count": a document inside another one leaves the tags as they were, and an element at the top adds its own tag
 -- and no other. So whatever holds of no tags and is kept by each top-level element holds of an accepted payload's tags (`tags-hold`).
--- From it: the version string lies inside the slice, and the numbers have their 32 and 64 bits. Assumes nothing.
+-- From it: the version string and the array of rejectedParams lie inside the slice, and the numbers have their 32 and 64 bits. Assumes nothing.
 use Prim.Native.Nat.{ℕ, zero, suc, _+_, _-_, _^_, _≤_, _<_}
 use mathlib.Core.Path.{_≡_, refl, sym, subst}
 use mathlib.Core.List.{List, [], _∷_}
@@ -76,12 +76,32 @@ document-keeps (suc levels) s at end t =
     unless-elim (Keeps t) (documentFits at end (valueLe (part s at 4))) (Fault 32) _ (λ e. tt)
     (λ e. elements-keep (documentOf levels false s) (document-keeps levels s) s (valueLe (part s at 4)) (at + 4) (at + valueLe (part s at 4)) t)
 
+-- a document that is accepted has a length that fits
+abbrev Fits : List ℕ → ℕ → ℕ → Walk → Type 0
+Fits s v end (Past n t) = documentFits v end (valueLe (part s v 4)) ≡ true
+Fits s v end (Fault k) = Unit {0}
+
+abbrev NestedFits : List ℕ → Nested → Type 0
+NestedFits s nested = (v end : ℕ) (t : Tags) → Fits s v end (nested v end t)
+
+fits-so : (s : List ℕ) (v end : ℕ) (w : Walk) → documentFits v end (valueLe (part s v 4)) ≡ true → Fits s v end w
+fits-so s v end (Past n t) e = e
+fits-so s v end (Fault k) e = tt
+
+document-length : (levels : ℕ) (s : List ℕ) → NestedFits s (documentOf levels false s)
+unfolding documentOf
+document-length zero s v end t = tt
+document-length (suc levels) s v end t =
+    let n = valueLe (part s v 4) in
+    unless-elim (Fits s v end) (documentFits v end n) (Fault 32) _ (λ e. tt) (fits-so s v end (elements n (documentOf levels false s) false s (v + 4) (v + n) t))
+
 -- an accepted element of the top level, in a document that ends at end, with the tags t before it
 pub record TopElement (s : List ℕ) (end : ℕ) (t : Tags) (kind : ℕ) (tag : Tag) (v : ℕ) : Type 0 where
   pub fresh : found t tag ≡ false
   pub right : typed tag kind ≡ true
   pub inside : end ≤ length s
   pub value : nests kind ≡ false → (n : ℕ) × (plainOf s v end kind ≡ To n)
+  pub document : nests kind ≡ true → documentFits v end (valueLe (part s v 4)) ≡ true
 
 or-neither : (b c : Bool) → b || not c ≡ false → (b ≡ false) × (c ≡ true)
 or-neither true c e = (e, cc)
@@ -104,29 +124,30 @@ abbrev pub AcceptedHolds : (Tags → Type 0) → Payload → Type 0
 AcceptedHolds P (Accepted t) = P t
 AcceptedHolds P (Refused k) = Unit {0}
 
+never : {X : Type 0} {b : Bool} → b ≡ true → b ≡ false → X
+never p q = absurd (let z : _≡_ {A = ℕ} 0 1 = cc in omega arith)
+
 then-holds : (P : Tags → Type 0) (w : Walk) (rest : ℕ → Tags → Walk) → Holds P w → ((n : ℕ) (t : Tags) → P t → Holds P (rest n t)) → Holds P (andThen w rest)
 then-holds P (Past n t) rest h r = r n t h
 then-holds P (Fault k) rest h r = tt
 
 module _ (s : List ℕ) (P : Tags → Type 0) (step : (end : ℕ) (t : Tags) (kind : ℕ) (tag : Tag) (v : ℕ) → TopElement s end t kind tag v → P t → P (withTag s t tag v)) where
-  plain-holds : (end : ℕ) (t : Tags) (kind : ℕ) (tag : Tag) (v : ℕ) → found t tag ≡ false → typed tag kind ≡ true → end ≤ length s → P t
+  plain-holds : (end : ℕ) (t : Tags) (kind : ℕ) (tag : Tag) (v : ℕ) → found t tag ≡ false → typed tag kind ≡ true → end ≤ length s → nests kind ≡ false → P t
       → (w : Skip) → plainOf s v end kind ≡ w → Holds P (pastPlain s w t tag v)
-  plain-holds end t kind tag v f g l p (To n) e = step end t kind tag v (record { fresh = f; right = g; inside = l; value = λ z. (n, e) }) p
-  plain-holds end t kind tag v f g l p Wrong e = tt
+  plain-holds end t kind tag v f g l y p (To n) e = step end t kind tag v (record { fresh = f; right = g; inside = l; value = λ z. (n, e); document = λ z. never z y }) p
+  plain-holds end t kind tag v f g l y p Wrong e = tt
 
   nested-holds : (end : ℕ) (t : Tags) (kind : ℕ) (tag : Tag) (v : ℕ) → found t tag ≡ false → typed tag kind ≡ true → end ≤ length s → nests kind ≡ true → P t
-      → (w : Walk) → Keeps t w → Holds P (pastNested s w tag v)
-  nested-holds end t kind tag v f g l y p (Past n u) e =
-      let never : nests kind ≡ false → _≡_ {A = ℕ} 0 1 = λ z. cc in
-      rw e (step end t kind tag v (record { fresh = f; right = g; inside = l; value = λ z. let o = never z in absurd (omega arith) }) p)
-  nested-holds end t kind tag v f g l y p (Fault k) e = tt
+      → (w : Walk) → Keeps t w → Fits s v end w → Holds P (pastNested s w tag v)
+  nested-holds end t kind tag v f g l y p (Past n u) e d = rw e (step end t kind tag v (record { fresh = f; right = g; inside = l; value = λ z. never y z; document = λ z. d }) p)
+  nested-holds end t kind tag v f g l y p (Fault k) e d = tt
 
-  module _ (nested : Nested) (keeps : NestedKeeps nested) where
+  module _ (nested : Nested) (keeps : NestedKeeps nested) (fits : NestedFits s nested) where
     element-holds : (at end : ℕ) (t : Tags) → end ≤ length s → P t → Holds P (elementOf nested true s at end t)
     element-holds at end t l p =
         element-by (Holds P) (HeadFits t) nested true s at end t (head-fits true s at end t) (λ k h. tt)
-        (λ kind tag v h y. nested-holds end t kind tag v (h .0) (h .1) l y p (nested v end t) (keeps v end t))
-        (λ kind tag v h y. plain-holds end t kind tag v (h .0) (h .1) l p (plainOf s v end kind) refl)
+        (λ kind tag v h y. nested-holds end t kind tag v (h .0) (h .1) l y p (nested v end t) (keeps v end t) (fits v end t))
+        (λ kind tag v h y. plain-holds end t kind tag v (h .0) (h .1) l y p (plainOf s v end kind) refl)
 
     elements-hold : (bound at end : ℕ) (t : Tags) → end ≤ length s → P t → Holds P (elements bound nested true s at end t)
     elements-hold bound at end t l =
@@ -138,7 +159,7 @@ module _ (s : List ℕ) (P : Tags → Type 0) (step : (end : ℕ) (t : Tags) (ki
   document-holds (suc levels) at end t h l p =
       let n = valueLe (part s at 4) in
       unless-elim (Holds P) (documentFits at end n) (Fault 32) _ (λ e. tt)
-      (λ e. elements-hold (documentOf levels false s) (document-keeps levels s) n (at + 4) (at + n) t (omega (arith, document-fits at end n e)) p)
+      (λ e. elements-hold (documentOf levels false s) (document-keeps levels s) (document-length levels s) n (at + 4) (at + n) t (omega (arith, document-fits at end n e)) p)
 
   answer-holds : (w : Walk) → Holds P w → AcceptedHolds P (answer w)
   answer-holds (Past n t) h = h
@@ -174,6 +195,9 @@ plain-string s v end kind n k e = rw k at e
 nests-not : (kind : ℕ) → kind ≡ 2 → nests kind ≡ false
 nests-not kind k = rw k
 
+nests-array : (kind : ℕ) → kind ≡ 4 → nests kind ≡ true
+nests-array kind k = rw k
+
 version-step : (s : List ℕ) (end : ℕ) (t : Tags) (kind : ℕ) (tag : Tag) (v : ℕ) → TopElement s end t kind tag v → VersionInside s t → VersionInside s (withTag s t tag v)
 version-step s end t kind Unknown v x p = p
 version-step s end t kind HashId v x p = p
@@ -189,6 +213,23 @@ version-step s end t kind ProtocolVersion v x p = λ y.
 
 pub version-inside : (s : List ℕ) → AcceptedHolds (VersionInside s) (payloadOf s)
 version-inside s = tags-hold s (VersionInside s) (version-step s) (λ y. let o : _≡_ {A = ℕ} 0 1 = cc in absurd (omega arith))
+
+-- an array of rejectedParams that was found lies inside the slice, as a document with its length and its last 0
+abbrev pub RejectedInside : List ℕ → Tags → Type 0
+RejectedInside s t = t .rejected .found ≡ true → (5 ≤ t .rejected .length) × (t .rejected .at + t .rejected .length ≤ length s)
+
+rejected-step : (s : List ℕ) (end : ℕ) (t : Tags) (kind : ℕ) (tag : Tag) (v : ℕ) → TopElement s end t kind tag v → RejectedInside s t → RejectedInside s (withTag s t tag v)
+rejected-step s end t kind Unknown v x p = p
+rejected-step s end t kind ProtocolVersion v x p = p
+rejected-step s end t kind HashId v x p = p
+rejected-step s end t kind Mtu v x p = p
+rejected-step s end t kind RejectedParams v x p = λ y.
+    let k : kind ≡ 4 = eqb-true kind 4 (x .right) in
+    let f = document-fits v end (valueLe (part s v 4)) (x .document (nests-array kind k)) in
+    (f .1, omega (arith, x .inside))
+
+pub rejected-inside : (s : List ℕ) → AcceptedHolds (RejectedInside s) (payloadOf s)
+rejected-inside s = tags-hold s (RejectedInside s) (rejected-step s) (λ y. let o : _≡_ {A = ℕ} 0 1 = cc in absurd (omega arith))
 
 -- numbers of four and of eight bytes
 pub value-most : (w : ℕ) (bs : List ℕ) → AreBytes bs → valueLe (take w bs) < 256 ^ w

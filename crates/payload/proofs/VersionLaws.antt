@@ -1,7 +1,7 @@
 -- Version strings there and back: what is written of a version with major 1 to 255 and the others 0 to 255 is read as that version, and every text
 -- that is read as a version is what is written of it. By the digits of each part and the first dot of each text. Assumes nothing.
 use Prim.Native.Nat.{ℕ, suc, _+_, _-_, _*_, _/_, _%_, _^_, _≤_, _<_, min}
-use mathlib.Core.Path.{_≡_, refl, ap, _∙_, sym}
+use mathlib.Core.Path.{_≡_, refl, ap, _∙_, sym, subst}
 use mathlib.Core.Bool.{Bool, true, false, not, _&&_}
 use mathlib.Core.List.{List, [], _∷_, _++_}
 use mathlib.Core.Logic.{_⊎_, inl, inr, ⊎-elim}
@@ -180,6 +180,10 @@ module _ (t : List ℕ) (v : Version) (e : versionOf t ≡ Good v) where
       (⊎-elim (λ f. absurd (let k = nothing (afterDot (afterDot t)) f in omega (arith, parts .0 .patch)))
       (λ f. ⊎-elim (λ g. absurd (let k = nothing-before (afterDot t) g in omega (arith, parts .0 .minor))) (λ g. ap (λ (l : List ℕ). beforeDot t ++ 46 ∷ l) f ∙ g) (dots t))
       (dots (afterDot t)))
+
+  -- a version that is read is in range
+  pub read-range : InRange (v .major) (v .minor) (v .patch)
+  read-range = subst (λ (w : Version). InRange (w .major) (w .minor) (w .patch)) (parts .1) (parts .0)
 
   -- a text that is read as a version is the version's string
   pub read-written : versionText v ≡ t

@@ -1,9 +1,9 @@
 -- The order of versions is total, code that compares the first numbers that differ decides it, and the lesser of two is one of them and at most
 -- both. By one law for each number compared, used for major and for minor. Assumes nothing.
-use Prim.Native.Nat.{ℕ, _<_}
+use Prim.Native.Nat.{ℕ, _≤_, _<_}
 use mathlib.Core.Path.{_≡_, refl, _∙_, sym}
 use mathlib.Core.Bool.{Bool, true, false, or-false}
-use mathlib.Core.Logic.{_⊎_, inl, inr}
+use mathlib.Core.Logic.{_⊎_, inl, inr, ⊎-elim}
 use native.Mathlib.Omega.{arith}
 use lib.Dec.{leb, ltb, eqb}
 use borrow.Author.Tests.{lt-ltb, le-ltb, ltb-true, ltb-false, eq-eqb, ne-eqb, eqb-true, eqb-false, le-leb, leb-true, leb-false}
@@ -93,6 +93,10 @@ module _ (a b : Version) where
   pub lesser-one : (lesserOf a b ≡ a) ⊎ (lesserOf a b ≡ b)
   unfolding lesserOf
   lesser-one = split (atMost a b) (λ e. inl (rw e)) (λ e. inr (rw e))
+
+  -- what both majors are at least, its major is at least
+  pub lesser-major : (n : ℕ) → n ≤ a .major → n ≤ b .major → n ≤ lesserOf a b .major
+  lesser-major n h k = ⊎-elim (λ e. rw e h) (λ e. rw e k) lesser-one
 
   pub lesser-first : atMost (lesserOf a b) a ≡ true
   unfolding lesserOf

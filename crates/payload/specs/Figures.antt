@@ -60,18 +60,19 @@ abbrev nothing : Payload
 nothing = Accepted noTags
 
 abbrev onlyVersion : Tags
-onlyVersion = record { version = record { found = true; at = 25; length = 5 }; hash = noTags .hash; mtu = noTags .mtu; rejected = false }
+onlyVersion = record { version = record { found = true; at = 25; length = 5 }; hash = noTags .hash; mtu = noTags .mtu; rejected = noTags .rejected }
 
 abbrev ackTags : Tags
 ackTags = record {
   version = record { found = true; at = 50; length = 5 };
   hash = record { found = true; value = 39027 };
   mtu = record { found = true; value = 131084 };
-  rejected = false;
+  rejected = noTags .rejected;
 }
 
+-- its array begins behind the payload's length, its own type and its key of 14 bytes with a 0
 abbrev onlyRejected : Tags
-onlyRejected = record { version = noTags .version; hash = noTags .hash; mtu = noTags .mtu; rejected = true }
+onlyRejected = record { version = noTags .version; hash = noTags .hash; mtu = noTags .mtu; rejected = record { found = true; at = 20; length = 28 } }
 
 -- document 01's marked payloads; "data size 0 means no tags"; the smallest document
 abbrev accepted : List Figure

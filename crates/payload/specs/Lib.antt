@@ -4,4 +4,5 @@ pub mod Walk
 pub mod Append
 pub mod Version
 pub mod Reply
+pub mod ReadBack
 pub mod Figures

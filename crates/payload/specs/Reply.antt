@@ -1,16 +1,18 @@
 -- The control payloads that the module writes, in bsonspec.org's grammar; BSON's numbers are least significant first. Document 01: "We write only
 -- the reply payloads above." Assumes nothing.
-use Prim.Native.Nat.{ℕ, _+_}
+use Prim.Native.Nat.{ℕ, _+_, _-_}
 use mathlib.Core.Bool.{true, false}
 use mathlib.Core.List.{List, [], _∷_, _++_}
 use lib.ListN.{length}
+use Rattle.numbers.specs.Bytes.{part}
 use Rattle.numbers.specs.Numbers.{bytesLe}
 use Rattle.payload.specs.declared.Tags.{Tags}
 use Rattle.payload.specs.declared.version.Version.{Version}
 use Rattle.payload.specs.declared.reply.Parameter.{Parameter}
 use Rattle.payload.specs.declared.reply.Parameter.the-variants.{ProtocolVersion, HashId}
 use Rattle.payload.specs.Tags.{protocolVersion, hashId, mtu, rejectedParams, noTags}
-use Rattle.payload.specs.Version.{versionText}
+use Rattle.payload.specs.Append.{Wrote}
+use Rattle.payload.specs.Version.{versionText, sayingOf}
 
 -- the first key of an array: "(written 0, 1, ...)"
 abbrev pub firstKey : List ℕ
@@ -48,6 +50,14 @@ grantElements h m = int32Element hashId h ++ int64Element mtu m
 unfoldable pub rejectedElement : List ℕ → List ℕ
 rejectedElement name = arrayElement rejectedParams (stringElement firstKey name)
 
+-- the array in it, which the reader hands out: a document of one string
+abbrev pub arrayOf : List ℕ → List ℕ
+arrayOf name = document (stringElement firstKey name)
+
+-- the name in such an array: behind the array's length, the string's type, key and length, 11 bytes, and before the string's last 0 and the array's
+abbrev pub nameIn : List ℕ → List ℕ
+nameIn array = part array 11 (length array - 13)
+
 -- "a payload of hashId (int32), mtu (int64), protocolVersion (string), in this order"
 unfoldable pub ackPayload : ℕ → ℕ → Version → List ℕ
 ackPayload h m v = document (grantElements h m ++ stringElement protocolVersion (versionText v))
@@ -60,22 +70,26 @@ serviceAckPayload h m = document (grantElements h m)
 unfoldable pub nakPayload : List ℕ → List ℕ
 nakPayload name = document (rejectedElement name)
 
+-- the ACK's payload to the front of the buffer: 10 where no string says the version, then 11
+abbrev pub writeAckOf : ℕ → ℕ → Version → List ℕ → Wrote
+writeAckOf h m v out = sayingOf v (ackPayload h m v) out
+
 -- the names: ["protocolVersion"] and ["hashId"]
 abbrev pub nameOf : Parameter → List ℕ
 nameOf ProtocolVersion = protocolVersion
 nameOf HashId = hashId
 
--- what the reader finds in each of them; the string's place is the one behind hashId, mtu and its own head
+-- what the reader finds in each of them; the string's place is the one behind hashId, mtu and its own head, the array's the one behind its head
 abbrev pub grantTags : ℕ → ℕ → Tags
-grantTags h m = record { version = noTags .version; hash = record { found = true; value = h }; mtu = record { found = true; value = m }; rejected = false }
+grantTags h m = record { version = noTags .version; hash = record { found = true; value = h }; mtu = record { found = true; value = m }; rejected = noTags .rejected }
 
 abbrev pub ackTags : ℕ → ℕ → Version → Tags
 ackTags h m v = record {
   version = record { found = true; at = 50; length = length (versionText v) };
   hash = record { found = true; value = h };
   mtu = record { found = true; value = m };
-  rejected = false;
+  rejected = noTags .rejected;
 }
 
-abbrev pub nakTags : Tags
-nakTags = record { version = noTags .version; hash = noTags .hash; mtu = noTags .mtu; rejected = true }
+abbrev pub nakTags : List ℕ → Tags
+nakTags name = record { version = noTags .version; hash = noTags .hash; mtu = noTags .mtu; rejected = record { found = true; at = 20; length = length (arrayOf name) } }

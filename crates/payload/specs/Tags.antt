@@ -10,6 +10,7 @@ use Rattle.numbers.specs.Numbers.{valueLe}
 use Rattle.payload.specs.declared.StringTag.{StringTag}
 use Rattle.payload.specs.declared.HashTag.{HashTag}
 use Rattle.payload.specs.declared.MtuTag.{MtuTag}
+use Rattle.payload.specs.declared.ArrayTag.{ArrayTag}
 use Rattle.payload.specs.declared.Tags.{Tags}
 use Rattle.payload.specs.declared.Tag.{Tag}
 use Rattle.payload.specs.declared.Tag.the-variants.{Unknown, ProtocolVersion, HashId, Mtu, RejectedParams}
@@ -60,7 +61,7 @@ found t Unknown = false
 found t ProtocolVersion = t .version .found
 found t HashId = t .hash .found
 found t Mtu = t .mtu .found
-found t RejectedParams = t .rejected
+found t RejectedParams = t .rejected .found
 
 -- 34: "known tag twice or of another type"
 abbrev pub clashes : Tags → Tag → ℕ → Bool
@@ -72,7 +73,7 @@ noTags = record {
   version = record { found = false; at = 0; length = 0 };
   hash = record { found = false; value = 0 };
   mtu = record { found = false; value = 0 };
-  rejected = false;
+  rejected = record { found = false; at = 0; length = 0 };
 }
 
 -- a string, whose value starts at v: behind its length of four bytes, and without the 0 byte that the length counts
@@ -86,10 +87,18 @@ hashAt s v = record { found = true; value = valueLe (part s v 4) }
 abbrev pub mtuAt : List ℕ → ℕ → MtuTag
 mtuAt s v = record { found = true; value = valueLe (part s v 8) }
 
+-- an array, whose value starts at v: document ::= int32 e_list 0, and the int32 is the "total number of bytes comprising the document"
+abbrev pub arrayAt : List ℕ → ℕ → ArrayTag
+arrayAt s v = record { found = true; at = v; length = valueLe (part s v 4) }
+
 -- the tags with one more, whose value starts at v; unknown ones "are skipped"
 abbrev pub withTag : List ℕ → Tags → Tag → ℕ → Tags
 withTag s t Unknown v = t
 withTag s t ProtocolVersion v = record { version = stringAt s v; hash = t .hash; mtu = t .mtu; rejected = t .rejected }
 withTag s t HashId v = record { version = t .version; hash = hashAt s v; mtu = t .mtu; rejected = t .rejected }
 withTag s t Mtu v = record { version = t .version; hash = t .hash; mtu = mtuAt s v; rejected = t .rejected }
-withTag s t RejectedParams v = record { version = t .version; hash = t .hash; mtu = t .mtu; rejected = true }
+withTag s t RejectedParams v = record { version = t .version; hash = t .hash; mtu = t .mtu; rejected = arrayAt s v }
+
+-- the array of rejectedParams in the bytes that were read: its whole document; nothing where it was not found
+abbrev pub rejectedIn : List ℕ → Tags → List ℕ
+rejectedIn s t = part s (t .rejected .at) (t .rejected .length)

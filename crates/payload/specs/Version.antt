@@ -10,6 +10,8 @@ use Rattle.lines.specs.Decimal.{numberOf, decimalOf}
 use Rattle.lines.specs.declared.Number.{Number}
 use Rattle.lines.specs.declared.Number.the-variants.{Value, NotDecimal, TooLarge}
 use Rattle.numbers.specs.Bytes.{pick, unless}
+use Rattle.payload.specs.Append.{Wrote, wrote, putOf}
+use Rattle.payload.specs.declared.append.Written.the-variants.{Refused}
 use Rattle.payload.specs.declared.version.Version.{Version}
 use Rattle.payload.specs.declared.version.VersionText.{VersionText}
 use Rattle.payload.specs.declared.version.VersionText.the-variants.{Good, Bad}
@@ -46,9 +48,17 @@ versionFrom a b c = unless (not (eqb a 0) && (leb a 255 && (leb b 255 && leb c 2
 unfoldable pub versionOf : List ℕ → VersionText
 versionOf text = versionFrom (partOf (beforeDot text)) (partOf (beforeDot (afterDot text))) (partOf (afterDot (afterDot text)))
 
--- "protocolVersion (string)": the string of a version, whatever its numbers
+-- "protocolVersion (string)": the string of a version, whatever its numbers; it is written only where it can be read (`writeVersionOf`)
 unfoldable pub versionText : Version → List ℕ
 versionText v = decimalOf (v .major) ++ (46 ∷ (decimalOf (v .minor) ++ (46 ∷ decimalOf (v .patch))))
+
+-- what a writer leaves whose bytes say a version: 10, "settings .. out of range", and nothing, where no string says it ("major at least 1"); else the bytes, or 11
+abbrev pub sayingOf : Version → List ℕ → List ℕ → Wrote
+sayingOf v bytes out = unless (leb 1 (v .major)) (wrote (Refused 10) out) (putOf bytes out)
+
+-- the string of a version to the front of the buffer
+abbrev pub writeVersionOf : Version → List ℕ → Wrote
+writeVersionOf v out = sayingOf v (versionText v) out
 
 -- x is below y, or is y and the rest holds
 abbrev pub belowOr : ℕ → ℕ → Bool → Bool

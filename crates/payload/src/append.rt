@@ -13,6 +13,9 @@ pub enum Written {
     Refused(u8),
 }
 
+// Document 01's number for settings out of range, here a version that no string says.
+pub const OUT_OF_RANGE: u8 = 10;
+
 // Document 01's number for a buffer that is too small.
 pub const OUT_TOO_SMALL: u8 = 11;
 

@@ -13,7 +13,7 @@ ghost use Prim.Native.Nat.{_+_, _-_, _^_, _≤_, _<_};
 ghost use lib.ListN.{length};
 ghost use Rattle.numbers.specs.Bytes.{part};
 ghost use Rattle.numbers.specs.Numbers.{valueLe};
-ghost use Rattle.payload.specs.Tags.{sameBytes, tagOf, found, clashes, noTags, stringAt, hashAt, mtuAt, withTag};
+ghost use Rattle.payload.specs.Tags.{sameBytes, tagOf, found, clashes, noTags, stringAt, hashAt, mtuAt, arrayAt, withTag, rejectedIn};
 ghost use Rattle.payload.specs.Walk.{readType, nests, fixedOf, booleanOf, stringOf, plainOf, tagAt, headOf, elementOf, documentOf, answer, payloadOf};
 ghost use Rattle.payload.specs.Step.{plainStep, nestedStep, stepped, StepIn};
 
@@ -36,6 +36,13 @@ pub struct MtuTag {
     pub value: u64,
 }
 
+// An array's place in the caller's slice: where its document begins, and that document's bytes in all. Not found: both 0.
+pub struct ArrayTag {
+    pub found: bool,
+    pub at: usize,
+    pub length: usize,
+}
+
 // The known tags of a payload.
 pub struct Tags {
     // protocolVersion
@@ -43,8 +50,8 @@ pub struct Tags {
     // hashId
     pub hash: HashTag,
     pub mtu: MtuTag,
-    // whether rejectedParams is there
-    pub rejected: bool,
+    // rejectedParams
+    pub rejected: ArrayTag,
 }
 
 // What a payload says: its known tags, or a refusal 30 to 34.
@@ -130,7 +137,7 @@ fn was_found(tags: Tags, tag: Tag) -> bool
         Tag::ProtocolVersion => tags.version.found,
         Tag::HashId => tags.hash.found,
         Tag::Mtu => tags.mtu.found,
-        Tag::RejectedParams => tags.rejected,
+        Tag::RejectedParams => tags.rejected.found,
     }
 }
 
@@ -193,6 +200,16 @@ fn mtu_at(bytes: &[u8], value: usize) -> MtuTag
     }
 }
 
+fn array_at(bytes: &[u8], value: usize) -> ArrayTag
+    ensures { λ r. ⌜ r ≡ arrayAt (now (bytes .entry)) value ⌝ }
+{
+    ArrayTag {
+        found: true,
+        at: value,
+        length: numbers::le4(bytes, value) as usize,
+    }
+}
+
 // The tags with one more, whose value starts at a place.
 fn with_tag(bytes: &[u8], tags: Tags, tag: Tag, value: usize) -> Tags
     requires { ⌜ value + 4 < 2 ^ 64 ⌝ }
@@ -214,7 +231,7 @@ fn with_tag(bytes: &[u8], tags: Tags, tag: Tag, value: usize) -> Tags
             more
         }
         Tag::RejectedParams => {
-            more.rejected = true;
+            more.rejected = array_at(bytes, value);
             more
         }
     }
@@ -443,7 +460,11 @@ fn no_tags() -> Tags
             found: false,
             value: 0,
         },
-        rejected: false,
+        rejected: ArrayTag {
+            found: false,
+            at: 0,
+            length: 0,
+        },
     }
 }
 
@@ -475,4 +496,13 @@ pub fn read(bytes: &[u8]) -> Payload
     } else {
         Payload::Refused(refusal::LENGTH)
     }
+}
+
+// The array of rejectedParams in the bytes that were read: its document. Nothing where there is none.
+pub fn rejected_params(bytes: &[u8], tags: Tags) -> &[u8]
+    ensures { λ r. ⌜ now r ≡ rejectedIn (now (bytes .entry)) tags ⌝ }
+{
+    let start = numbers::least(tags.rejected.at, bytes.len());
+    let end = start + numbers::least(tags.rejected.length, bytes.len() - start);
+    &bytes[start..end]
 }

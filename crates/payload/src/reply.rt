@@ -1,5 +1,6 @@
 // The control payloads that the module writes: document 01, "Opening" and "In a session".
 // Each is one document of bsonspec.org, made by small writers of an element.
+use crate::append::OUT_OF_RANGE;
 use crate::append::OUT_TOO_SMALL;
 use crate::append::Written;
 use crate::append::put_byte;
@@ -14,7 +15,7 @@ ghost use lib.ListN.{length};
 ghost use Rattle.payload.specs.Append.{Appended, wrote, putOf};
 ghost use Rattle.payload.specs.Tags.{protocolVersion};
 ghost use Rattle.payload.specs.Version.{versionText};
-ghost use Rattle.payload.specs.Reply.{elementHead, int32Element, int64Element, stringElement, grantElements, rejectedElement, nameOf, ackPayload, serviceAckPayload, nakPayload};
+ghost use Rattle.payload.specs.Reply.{elementHead, int32Element, int64Element, stringElement, grantElements, rejectedElement, nameOf, serviceAckPayload, nakPayload, writeAckOf};
 
 // The parameters that a NAK may name.
 pub enum Parameter {
@@ -103,10 +104,13 @@ fn put_version(version: Version, at: usize, out: &mut [u8]) -> usize
     put_string(b"protocolVersion", &text[0..end], at, out)
 }
 
-// The payload of the opening's ACK in version 5: hashId, mtu, protocolVersion.
+// The payload of the opening's ACK in version 5: hashId, mtu, protocolVersion. No string says a major of 0.
 pub fn write_ack(hash: u32, mtu: u64, version: Version, out: &mut [u8]) -> Written
-    ensures { λ r. ⌜ wrote r (now (out .exit)) ≡ putOf (ackPayload hash mtu version) (now (out .entry)) ⌝ }
+    ensures { λ r. ⌜ wrote r (now (out .exit)) ≡ writeAckOf hash mtu version (now (out .entry)) ⌝ }
 {
+    if version.major < 1 {
+        return Written::Refused(OUT_OF_RANGE);
+    }
     let end = DOCUMENT + GRANT + VERSION + version::size(version);
     if out.len() < end {
         return Written::Refused(OUT_TOO_SMALL);

@@ -1,4 +1,5 @@
 // Version strings: document 01, "Control payloads". Three decimal parts of value 0 to 255, no spare zeros, major at least 1.
+use crate::append::OUT_OF_RANGE;
 use crate::append::OUT_TOO_SMALL;
 use crate::append::Written;
 use crate::append::put_byte;
@@ -6,8 +7,8 @@ ghost use mathlib.Core.Path.{_≡_};
 ghost use Prim.Native.Nat.{_+_, _≤_, min};
 ghost use lib.ListN.{length};
 ghost use Rattle.lines.specs.Decimal.{decimalOf};
-ghost use Rattle.payload.specs.Append.{Appended, wrote, putOf};
-ghost use Rattle.payload.specs.Version.{spareZero, partOf, beforeDot, afterDot, versionFrom, versionOf, versionText, atMost, lesserOf};
+ghost use Rattle.payload.specs.Append.{Appended, wrote};
+ghost use Rattle.payload.specs.Version.{spareZero, partOf, beforeDot, afterDot, versionFrom, versionOf, versionText, writeVersionOf, atMost, lesserOf};
 
 pub struct Version {
     pub major: u8,
@@ -150,10 +151,13 @@ pub(crate) fn put(version: Version, at: usize, out: &mut [u8]) -> usize
     put_part(version.patch, patch, out)
 }
 
-// A version's string to the front of out. A major of 0 is written as it stands.
+// A version's string to the front of out. No string says a major of 0.
 pub fn write(version: Version, out: &mut [u8]) -> Written
-    ensures { λ r. ⌜ wrote r (now (out .exit)) ≡ putOf (versionText version) (now (out .entry)) ⌝ }
+    ensures { λ r. ⌜ wrote r (now (out .exit)) ≡ writeVersionOf version (now (out .entry)) ⌝ }
 {
+    if version.major < 1 {
+        return Written::Refused(OUT_OF_RANGE);
+    }
     let end = size(version);
     if out.len() < end {
         return Written::Refused(OUT_TOO_SMALL);

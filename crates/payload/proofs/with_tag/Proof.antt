@@ -12,9 +12,9 @@ with-tag-spec =
     (λ c. search needs) (λ c κs. search needs)  -- ProtocolVersion
     (λ c. search needs) (λ c κs. search needs)  -- HashId
     (λ c. search needs) (λ c κs. search needs)  -- Mtu
-    (λ c. search needs)  -- RejectedParams
+    (λ c. search needs) (λ c κs. search needs)  -- RejectedParams
     (λ c. search needs)
     (λ c. rw ((c .before .enum-told2 .given .1), (c .string-at .ensures)))
     (λ c. rw ((c .before .enum-told3 .given .1), (c .hash-at .ensures)))
     (λ c. rw ((c .before .enum-told4 .given .1), (c .mtu-at .ensures)))
-    (λ c. rw (c .enum-told5 .given .1)))
+    (λ c. rw ((c .before .enum-told5 .given .1), (c .array-at .ensures))))
