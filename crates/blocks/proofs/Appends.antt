@@ -17,7 +17,7 @@ use Rattle.blocks.proofs.Over.{over-length, over-past, over-nothing}
 use Rattle.blocks.proofs.Counts.{place-here, place-later, place-not, place-cases}
 use Rattle.blocks.proofs.Contents.{append-mine, append-not, append-length, block-and-rest, nil-of}
 use Rattle.blocks.proofs.Parts.{starts, ends, cut-short}
-use Rattle.blocks.proofs.Turns.{rest-place, place-inside, next-block}
+use Rattle.blocks.proofs.Turns.{next-block}
 
 -- a pool whose first bytes stay, in one step and in two
 in-two : (f : List ℕ → List ℕ) (a b : ℕ) (pool : List ℕ) → take a pool ++ (take b (drop a pool) ++ f (drop b (drop a pool))) ≡ take (a + b) pool ++ f (drop (a + b) pool)
@@ -119,7 +119,6 @@ module _ (owner b at : ℕ) (s map pool : List ℕ) (k : ℕ) (is : k ≡ b + nt
 
 -- between two turns: to append what is left of the payload from block b on is the whole append
 pub record Filling (owner first at : ℕ) (payload map before pool : List ℕ) (b place done : ℕ) : Type 0 where
-  pub passed : b ≤ length map
   pub inside : place < blockSize
   pub so-far : done ≤ length payload
   pub size : length pool ≡ length before
@@ -136,28 +135,22 @@ module _ {owner first at b place done : ℕ} {payload map before pool : List ℕ
   pub filling-falls : done < length payload → {n : ℕ} → n ≡ min (blockSize - place) (length payload - done) → length payload - (done + n) < length payload - done
   filling-falls more least = omega arith
 
-  module _ {r : ℕ} (scanned : r ≡ nthNumber owner 0 (take (length map - b) (drop b map))) where
-    next : b + r ≡ b + nthNumber owner 0 (drop b map)
-    next = ap (λ (j : ℕ). b + j) (rest-place owner 0 map b scanned)
+  module _ {k : ℕ} (next : k ≡ b + nthNumber owner 0 (drop b map)) where
+    pub filling-no-block : length map ≤ k → pool ≡ appendedFrom owner first at payload map before
+    filling-no-block h = no-block owner b place (drop done payload) map pool k next h ∙ i .rest
 
-    pub filling-found : b + r ≤ length map
-    filling-found = place-inside owner 0 map b (i .passed) scanned
-
-    pub filling-no-block : length map ≤ b + r → pool ≡ appendedFrom owner first at payload map before
-    filling-no-block h = no-block owner b place (drop done payload) map pool (b + r) next h ∙ i .rest
-
-    module _ {t : Bool} (test : t ≡ ltb (blockSize * (b + r)) (length pool)) where
+    module _ {t : Bool} (test : t ≡ ltb (blockSize * k) (length pool)) where
       pub filling-no-pool : t ≡ false → pool ≡ appendedFrom owner first at payload map before
-      filling-no-pool f = no-pool owner b place (drop done payload) map pool (b + r) next (ends (b + r) (length pool) test f) ∙ i .rest
+      filling-no-pool f = no-pool owner b place (drop done payload) map pool k next (ends k (length pool) test f) ∙ i .rest
 
-      pub filling-starts : t ≡ true → blockSize * (b + r) < length pool
-      filling-starts f = starts (b + r) (length pool) test f
+      pub filling-starts : t ≡ true → blockSize * k < length pool
+      filling-starts f = starts k (length pool) test f
 
       -- a turn, with the parts that code lends
-      pub filling-turn : t ≡ true → b + r < length map → {start size n : ℕ} → start ≡ blockSize * (b + r) → size ≡ min blockSize (length pool - start)
+      pub filling-turn : t ≡ true → k < length map → {start size n : ℕ} → start ≡ blockSize * k → size ≡ min blockSize (length pool - start)
           → n ≡ min (blockSize - place) (length payload - done)
           → {o : List ℕ} → o ≡ over place (take (length payload - done) (drop done payload)) (take (start + size - start) (drop start pool))
-          → Filling owner first at payload map before (putMid start (start + size - start) pool o) (b + r + 1) 0 (done + n)
+          → Filling owner first at payload map before (putMid start (start + size - start) pool o) (k + 1) 0 (done + n)
       filling-turn f below {start} {size} {n} begins sized least {o} put =
           let fits = filling-starts f in
           let z : start + size - start ≡ size = omega arith in
@@ -166,9 +159,8 @@ module _ {owner first at b place done : ℕ} {payload map before pool : List ℕ
           sym (drop-drop n done payload) ∙ cut-short (drop done payload) (blockSize - place) n (omega (arith, length-drop done payload)) .1 in
           let share : o ≡ over place (drop done payload) (take blockSize (drop start pool)) = put ∙ rw (rest-lent payload done, z, block .0) in
           record {
-            passed = omega arith;
             inside = omega arith;
             so-far = omega arith;
             size = same-len-mid start (start + size - start) pool o (ap length put ∙ over-length place _ (take (start + size - start) (drop start pool))) ∙ i .size;
-            rest = rw (z, block .1, left, begins) (from-turn owner b place (drop done payload) map pool (b + r) next below (omega arith) (i .inside) (rw begins at share)) ∙ i .rest;
+            rest = rw (z, block .1, left, begins) (from-turn owner b place (drop done payload) map pool k next below (omega arith) (i .inside) (rw begins at share)) ∙ i .rest;
           }

@@ -2,10 +2,10 @@
 -- By induction along the list. Assumes nothing.
 use Prim.Native.Nat.{ℕ, zero, suc, _+_, _-_, _≤_, _<_, min}
 use mathlib.Core.Path.{_≡_, refl, ap, sym, _∙_}
-use mathlib.Core.List.{List, [], _∷_, _++_, append-assoc, append-nil}
+use mathlib.Core.List.{List, [], _∷_, _++_, append-assoc}
 use native.Mathlib.Omega.{arith}
 use lib.Dec.{leb}
-use lib.ListN.{length, take, drop, length-append, length-take, drop-of-length-le}
+use lib.ListN.{length, take, drop, length-append, length-take}
 use lib.Seq.{take-nil, drop-nil, take-length, take-at}
 use borrow.Author.Tests.{leb-true, leb-false}
 use Rattle.numbers.specs.Bytes.{laid}
@@ -96,12 +96,17 @@ over-append (suc at) s (x ∷ a) b =
     let f : suc (length a) - suc at ≡ length a - at = omega arith in
     rw (e, f) (ap (λ (t : List ℕ). x ∷ t) (over-append at s a b))
 
--- bytes in two pieces, to the front: the second piece goes to what is behind the first
-pub over-pieces : (a b l : List ℕ) → over 0 (a ++ b) l ≡ take (length a) (over 0 a l) ++ over 0 b (drop (length a) l)
+-- bytes in two pieces: the second piece goes right behind the first
+pub over-again : (at : ℕ) (a b l : List ℕ) → over at (a ++ b) l ≡ over (at + length a) b (over at a l)
 unfolding over
-over-pieces [] b l = refl
-over-pieces (y ∷ a) b [] = refl
-over-pieces (y ∷ a) b (x ∷ l) = ap (λ (t : List ℕ). y ∷ t) (over-pieces a b l)
+over-again at a b [] = refl
+over-again zero [] b (x ∷ l) = refl
+over-again zero (y ∷ a) b (x ∷ l) =
+    let e : 0 + suc (length a) ≡ suc (0 + length a) = omega arith in
+    rw e (ap (λ (t : List ℕ). y ∷ t) (over-again zero a b l))
+over-again (suc at) a b (x ∷ l) =
+    let e : suc at + length a ≡ suc (at + length a) = omega arith in
+    rw e (ap (λ (t : List ℕ). x ∷ t) (over-again at a b l))
 
 -- more bytes than there is room for
 pub over-cut : (n : ℕ) (s l : List ℕ) → length l ≤ n → over 0 (take n s) l ≡ over 0 s l
@@ -110,9 +115,3 @@ over-cut n s [] h = refl
 over-cut n [] (x ∷ l) h = rw (take-nil n)
 over-cut zero (y ∷ s) (x ∷ l) h = absurd (omega arith)
 over-cut (suc n) (y ∷ s) (x ∷ l) h = ap (λ (t : List ℕ). y ∷ t) (over-cut n s l (omega arith))
-
--- bytes that fill a list
-pub over-full : (s l : List ℕ) → length s ≡ length l → over 0 s l ≡ s
-over-full s l e =
-    let h : length l ≤ length s = omega arith in
-    over-front s l (omega arith) ∙ rw (drop-of-length-le l {i = length s} h) (append-nil s)

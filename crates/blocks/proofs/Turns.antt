@@ -8,12 +8,12 @@ use mathlib.Core.List.{List, [], _∷_, _++_, append-nil}
 use native.Mathlib.Numerals.{add-one}
 use native.Mathlib.Omega.{arith}
 use lib.Dec.{eqb, leb}
-use lib.ListN.{length, take, drop, getD, set, drop-of-length-le, take-append-drop, length-take, length-drop}
+use lib.ListN.{length, take, drop, getD, set, drop-of-length-le, take-append-drop, length-drop}
 use lib.Seq.{drop-cons, take-suc, take-suc-set, drop-set-lt, append-snoc, take-all, drop-drop, getD-drop}
 use Rattle.numbers.specs.Bytes.{pick}
 use Rattle.numbers.proofs.Slices.{rest-lent}
 use Rattle.blocks.specs.Map.{free, heldBy, claimed, released, nthNumber}
-use Rattle.blocks.proofs.Counts.{held-most, claim-none, claim-taken, claim-held, place-here, place-later, place-not, place-most, place-owner, place-skip}
+use Rattle.blocks.proofs.Counts.{claim-none, claim-taken, claim-held, place-here, place-later, place-not, place-owner, place-skip}
 
 -- a pass over a list at i: the entry is kept, or v is stored there
 pub kept-at : (g : List ℕ → List ℕ) (p : List ℕ) (i : ℕ) → i < length p → take (i + 1) p ++ g (drop (i + 1) p) ≡ take i p ++ (getD p i 0 ∷ g (drop (suc i) p))
@@ -81,9 +81,6 @@ module _ (owner : ℕ) (map : List ℕ) (i n : ℕ) {r : ℕ} (e : r ≡ heldBy 
       ∙ ap (λ (t : List ℕ). heldBy owner (take n (drop i map)) + heldBy owner t) (sym (drop-drop n i map))
       ∙ sym (held-pieces owner (take n (drop i map)) (drop n (drop i map))) ∙ ap (heldBy owner) (take-append-drop n (drop i map))
 
-  pub group-most : r ≤ n
-  group-most = omega (arith, group-count, held-most owner (take n (drop i map)), length-take n (drop i map))
-
   -- the block that is looked for is not among them
   pub group-pass : (left : ℕ) → i + n ≤ length map → r ≤ left → nthNumber owner left (drop i map) ≡ n + nthNumber owner (left - r) (drop (i + n) map)
   group-pass left h g =
@@ -94,21 +91,6 @@ module _ (owner : ℕ) (map : List ℕ) (i n : ℕ) {r : ℕ} (e : r ≡ heldBy 
 -- those that are left
 pub rest-count : (owner : ℕ) (map : List ℕ) (i : ℕ) {r : ℕ} → r ≡ heldBy owner (take (length map - i) (drop i map)) → r ≡ heldBy owner (drop i map)
 rest-count owner map i e = e ∙ ap (heldBy owner) (rest-lent map i)
-
-pub rest-place : (owner n : ℕ) (map : List ℕ) (i : ℕ) {r : ℕ} → r ≡ nthNumber owner n (take (length map - i) (drop i map)) → r ≡ nthNumber owner n (drop i map)
-rest-place owner n map i e = e ∙ ap (nthNumber owner n) (rest-lent map i)
-
-pub place-inside : (owner n : ℕ) (map : List ℕ) (i : ℕ) {r : ℕ} → i ≤ length map → r ≡ nthNumber owner n (take (length map - i) (drop i map)) → i + r ≤ length map
-place-inside owner n map i h e = omega (arith, rest-place owner n map i e, place-most owner n (drop i map), length-drop i map)
-
--- groups passed over, then smaller ones behind them, then entries
-pub skip-twice : (map : List ℕ) (a b owner n m k : ℕ) {r : ℕ} → a + nthNumber owner m (drop a map) ≡ nthNumber owner n map
-    → b + nthNumber owner k (drop b (take (length map - a) (drop a map))) ≡ nthNumber owner m (take (length map - a) (drop a map))
-    → r ≡ nthNumber owner k (take (length map - (a + b)) (drop (a + b) map))
-    → a + b + r ≡ nthNumber owner n map
-skip-twice map a b owner n m k e f g =
-    let near : b + nthNumber owner k (drop (a + b) map) ≡ nthNumber owner m (drop a map) = rw (rest-lent map a, drop-drop b a map) at f in
-    omega (arith, rest-place owner k map (a + b) g)
 
 -- finding: the block itself, another of the owner's before it, one of another, the end
 module _ (owner n : ℕ) (map : List ℕ) (i : ℕ) where

@@ -4,7 +4,7 @@ use Prim.Native.Nat.{ℕ, zero, suc, _+_, _-_, _/_, _<_, _≤_}
 use mathlib.Core.Bool.{_&&_}
 use mathlib.Core.List.{List, [], _∷_}
 use lib.Dec.{eqb, ltb, leb}
-use lib.ListN.{length, replicate}
+use lib.ListN.{length, replicate, drop}
 use Rattle.numbers.specs.Bytes.{pick}
 use Rattle.blocks.specs.declared.Found.{Found}
 use Rattle.blocks.specs.declared.Found.the-variants.{Block, Missing}
@@ -76,6 +76,10 @@ unfoldable pub nthNumber : ℕ → ℕ → List ℕ → ℕ
 nthNumber owner n [] = 0
 nthNumber owner n (o ∷ map) = pick (eqb o owner) (pick (eqb n 0) 0 (suc (nthNumber owner (n - 1) map))) (suc (nthNumber owner n map))
 
--- the same as an answer
+-- the same among the blocks from b on
+abbrev pub nthFrom : ℕ → ℕ → ℕ → List ℕ → ℕ
+nthFrom owner b n map = b + nthNumber owner n (drop b map)
+
+-- an owner's block as an answer
 unfoldable pub nthBlock : ℕ → ℕ → List ℕ → Found
 nthBlock owner n map = pick (ltb (nthNumber owner n map) (length map)) (Block (record { 0 = nthNumber owner n map })) Missing

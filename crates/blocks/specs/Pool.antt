@@ -1,11 +1,15 @@
 -- The pool's bytes. Document 01, "Messages". The map and the pool are gone through side by side, a block at a time, so no definition computes an
 -- index. Each is total: where the pool ends early, a block is the bytes that are there. Assumes nothing.
-use Prim.Native.Nat.{ℕ, zero, suc, _-_, _*_}
+use Prim.Native.Nat.{ℕ, zero, suc, _-_, _*_, _^_, _<_}
 use mathlib.Core.List.{List, [], _∷_, _++_}
 use lib.Dec.{eqb}
-use lib.ListN.{take, drop}
+use lib.ListN.{length, take, drop}
 use Rattle.numbers.specs.Bytes.{pick, part}
 use Rattle.blocks.specs.Map.{blockSize}
+
+-- the bytes of a slice, of which there are no more than a `usize` counts
+abbrev pub Sized : List ℕ → Type 0
+Sized bytes = length bytes < 2 ^ 64
 
 -- "following its blocks one after another": the bytes of an owner's blocks, in rising order
 unfoldable pub blockBytes : ℕ → List ℕ → List ℕ → List ℕ
@@ -38,6 +42,10 @@ appendedFrom owner b at s map pool = take (blockSize * b) pool ++ appended owner
 -- blocks and buffer go
 unfoldable pub delivered : ℕ → ℕ → List ℕ → List ℕ → List ℕ → List ℕ
 delivered owner due map pool out = over 0 (take due (blockBytes owner map pool)) out
+
+-- the same, where only block b and those behind it take part, and what is due goes to the buffer from the place `at` on
+unfoldable pub deliveredFrom : ℕ → ℕ → ℕ → ℕ → List ℕ → List ℕ → List ℕ → List ℕ
+deliveredFrom owner b at due map pool out = over at (take due (blockBytes owner (drop b map) (drop (blockSize * b) pool))) out
 
 -- the blocks of these numbers, one after another: block b starts at blockSize * b
 unfoldable pub joined : List ℕ → List ℕ → List ℕ

@@ -2,13 +2,14 @@
 // It knows no session, no message and no frame: owners are numbers, and bytes are bytes.
 // Every public function answers every map, pool and number: it stops where blocks, pool or buffer run out, as its definition says.
 ghost use mathlib.Core.Path.{_≡_};
-ghost use Prim.Native.Nat.{_+_, _-_, _*_, _≤_, _<_, min};
+ghost use Prim.Native.Nat.{_+_, _*_, _≤_, _<_, min};
 ghost use lib.Dec.{eqb, ltb, leb};
 ghost use mathlib.Core.Bool.{_&&_};
-ghost use lib.ListN.{length, drop};
+ghost use lib.ListN.{length};
+ghost use denote.Ref.{at-last};
 ghost use Rattle.numbers.specs.Bytes.{pick};
-ghost use Rattle.blocks.specs.Map.{blockSize, free, neededFor, freeMap, heldBy, freeIn, claimed, released, nthNumber, nthBlock};
-ghost use Rattle.blocks.specs.Pool.{over, appended, appendedFrom, delivered};
+ghost use Rattle.blocks.specs.Map.{blockSize, free, neededFor, freeMap, heldBy, freeIn, claimed, released, nthNumber, nthFrom, nthBlock};
+ghost use Rattle.blocks.specs.Pool.{Sized, over, appended, appendedFrom, delivered, deliveredFrom};
 
 // A block's place in the pool: block b has the BLOCK_SIZE bytes from BLOCK_SIZE * b on.
 pub struct BlockNumber(pub usize);
@@ -16,9 +17,9 @@ pub struct BlockNumber(pub usize);
 // Whose a block is; FREE is nobody's.
 pub struct Owner(pub u8);
 
-// How many entries were passed, and how many of an owner's blocks still lie before the one looked for.
+// The block to look from, and how many of an owner's blocks still lie before the one looked for.
 struct Skipped {
-    from: usize,
+    from: BlockNumber,
     left: usize,
 }
 
@@ -43,8 +44,7 @@ const HALF: usize = 128;
 // Entries of the map that are counted at once: few enough for a count of one byte, so that sixteen of them are compared in one step.
 const GROUP: usize = 64;
 
-// Entries of the map that are looked through one by one, or delivered by calls one inside another: few enough for the processor to
-// remember where each call returns to.
+// Entries of the map that are looked through one by one.
 const FEW: usize = 16;
 
 // The map in which every block is free.
@@ -99,13 +99,15 @@ pub fn held(map: &[u8], owner: Owner) -> usize
 {
     let number = owner.0;
     let mut count: usize = 0;
-    let mut from: usize = 0;
-    while GROUP <= map.len() - from {
-        let end = from + GROUP;
-        count += wide(count_group(&map[from..end], number));
-        from = end;
+    let mut from = BlockNumber(0);
+    while GROUP <= map.len() - from.0 {
+        let start = from.0;
+        let end = start + GROUP;
+        count += wide(count_group(&map[start..end], number));
+        from = BlockNumber(end);
     }
-    count + wide(count_group(&map[from..], number))
+    let start = from.0;
+    count + wide(count_group(&map[start..], number))
 }
 
 // How many blocks are free.
@@ -122,16 +124,17 @@ pub fn claim(map: [u8; BLOCK_COUNT], count: usize, owner: Owner) -> [u8; BLOCK_C
     let number = owner.0;
     let mut after = map;
     let mut wanted = count;
-    let mut i: usize = 0;
-    while i < BLOCK_COUNT {
+    let mut block = BlockNumber(0);
+    while block.0 < BLOCK_COUNT {
         if wanted == 0 {
             return after;
         }
+        let i = block.0;
         if after[i] == FREE {
             after[i] = number;
             wanted -= 1;
         }
-        i += 1;
+        block = BlockNumber(i + 1);
     }
     after
 }
@@ -154,80 +157,80 @@ pub fn release(map: [u8; BLOCK_COUNT], low: Owner, high: Owner) -> [u8; BLOCK_CO
     let first = low.0;
     let last = high.0;
     let mut after = map;
-    let mut i: usize = 0;
-    while i < BLOCK_COUNT {
+    let mut block = BlockNumber(0);
+    while block.0 < BLOCK_COUNT {
+        let i = block.0;
         after[i] = entry_after(after[i], first, last);
-        i += 1;
+        block = BlockNumber(i + 1);
     }
     after
 }
 
-// The number of an owner's block at the place n, entry by entry; the map's length if it has not so many.
-fn scan(map: &[u8], owner: u8, n: usize) -> usize
-    ensures { λ r. ⌜ r ≡ nthNumber owner n (now (map .entry)) ⌝ }
+// An owner's block at the place n among those from a block on, entry by entry; the map's length if it has not so many.
+fn scan(map: &[u8], owner: u8, from: BlockNumber, n: usize) -> BlockNumber
+    ensures { λ r. ⌜ r .0 ≡ nthFrom owner (from .0) n (now (map .entry)) ⌝ }
 {
     let mut left = n;
-    let mut i: usize = 0;
-    while i < map.len() {
+    let mut block = from;
+    while block.0 < map.len() {
+        let i = block.0;
         if map[i] == owner {
             if left == 0 {
-                return i;
+                return block;
             }
             left -= 1;
         }
-        i += 1;
+        block = BlockNumber(i + 1);
     }
-    i
+    block
 }
 
-// Passes over groups of entries while the block looked for lies behind them.
-fn skip(map: &[u8], owner: u8, n: usize, group: usize) -> Skipped
-    requires { ⌜ (1 ≤ group) × (group ≤ 64) ⌝ }
-    ensures { λ r. ⌜ (r .from ≤ length (now (map .entry))) × (r .from + nthNumber owner (r .left) (drop (r .from) (now (map .entry))) ≡ nthNumber owner n (now (map .entry))) ⌝ }
+// Passes over groups of entries, from a block on, while the block looked for lies behind them.
+fn skip(map: &[u8], owner: u8, first: BlockNumber, n: usize, group: usize) -> Skipped
+    requires { ⌜ (first .0 ≤ length (now map)) × (1 ≤ group) × (group ≤ 64) ⌝ }
+    ensures { λ r. ⌜ (r .from .0 ≤ length (now (map .entry))) × (nthFrom owner (r .from .0) (r .left) (now (map .entry)) ≡ nthFrom owner (first .0) n (now (map .entry))) ⌝ }
 {
     let mut left = n;
-    let mut from: usize = 0;
-    while group <= map.len() - from {
-        let end = from + group;
-        let here = wide(count_group(&map[from..end], owner));
+    let mut from = first;
+    while group <= map.len() - from.0 {
+        let start = from.0;
+        let end = start + group;
+        let here = wide(count_group(&map[start..end], owner));
         if left < here {
             return Skipped { from, left };
         }
         left -= here;
-        from = end;
+        from = BlockNumber(end);
     }
     Skipped { from, left }
 }
 
-// The same as scan, by counting: only the last few entries are gone through one by one.
+// The same as scan from the first block on, by counting: only the last few entries are gone through one by one.
 fn find_block(map: &[u8], owner: u8, n: usize) -> BlockNumber
     ensures { λ r. ⌜ r .0 ≡ nthNumber owner n (now (map .entry)) ⌝ }
 {
-    let far = skip(map, owner, n, GROUP);
-    let a = far.from;
-    let near = skip(&map[a..], owner, far.left, FEW);
-    let b = a + near.from;
-    let found = b + scan(&map[b..], owner, near.left);
-    BlockNumber(found)
+    let far = skip(map, owner, BlockNumber(0), n, GROUP);
+    let near = skip(map, owner, far.from, far.left, FEW);
+    scan(map, owner, near.from, near.left)
 }
 
 // An owner's block at the place n, from 0, in rising order.
 pub fn nth_block(map: &[u8], owner: Owner, n: usize) -> Found
     ensures { λ r. ⌜ r ≡ nthBlock (owner .0) n (now (map .entry)) ⌝ }
 {
-    let b = find_block(map, owner.0, n);
-    if b.0 < map.len() {
-        Found::Block(b)
+    let block = find_block(map, owner.0, n);
+    if block.0 < map.len() {
+        Found::Block(block)
     } else {
         Found::Missing
     }
 }
 
-// Whether the block that lies so many blocks ahead starts inside so many bytes.
-fn starts_inside(ahead: usize, bytes: usize) -> bool
-    ensures { λ r. ⌜ r ≡ ltb (blockSize * ahead) bytes ⌝ }
+// Whether a block starts inside so many bytes.
+fn starts_inside(block: BlockNumber, bytes: usize) -> bool
+    ensures { λ r. ⌜ r ≡ ltb (blockSize * block .0) bytes ⌝ }
 {
-    ahead < blocks_needed(bytes)
+    block.0 < blocks_needed(bytes)
 }
 
 // Copies at most a block by way of an array of its own. That lies apart from both, so the compiler makes one move of the two copies, with no test for overlap.
@@ -269,24 +272,24 @@ fn overwrite(source: &[u8], at: usize, target: &mut [u8])
 // Puts a payload over the owner's blocks, from a place in the first one at or behind a block on: in each turn one block's share.
 // Both facts hold by themselves of what `append` found: a test here would cost a turn's time in every call.
 fn fill(map: &[u8], owner: u8, first: BlockNumber, at: usize, payload: &[u8], pool: &mut [u8])
-    requires { ⌜ (at < 256) × (first .0 ≤ length (now map)) ⌝ }
+    requires { ⌜ at < 256 ⌝ }
     ensures { λ _. ⌜ now (pool .exit) ≡ appendedFrom owner (first .0) at (now (payload .entry)) (now (map .entry)) (now (pool .entry)) ⌝ }
 {
-    let mut b = first.0;
+    let mut from = first;
     let mut place = at;
     let mut done: usize = 0;
     while done < payload.len() {
-        let k = b + scan(&map[b..], owner, 0);
-        if map.len() <= k {
+        let block = scan(map, owner, from, 0);
+        if map.len() <= block.0 {
             return;
         }
-        if starts_inside(k, pool.len()) {
-            let start = BLOCK_SIZE * k;
+        if starts_inside(block, pool.len()) {
+            let start = BLOCK_SIZE * block.0;
             let end = start + numbers::least(BLOCK_SIZE, pool.len() - start);
             overwrite(&payload[done..], place, &mut pool[start..end]);
             done = done + numbers::least(BLOCK_SIZE - place, payload.len() - done);
             place = 0;
-            b = k + 1;
+            from = BlockNumber(block.0 + 1);
         } else {
             return;
         }
@@ -304,70 +307,65 @@ pub fn append(map: &[u8], owner: Owner, at: usize, payload: &[u8], pool: &mut [u
         return;
     }
     let place = at % BLOCK_SIZE;
-    let b = find_block(map, number, at / BLOCK_SIZE);
-    fill(map, number, b, place, payload, pool);
+    let block = find_block(map, number, at / BLOCK_SIZE);
+    fill(map, number, block, place, payload, pool);
 }
 
-// Writes the first `due` bytes of the owner's blocks to the front of out: it copies one block and calls itself for the rest. Bytes still due fall.
-fn deliver_blocks(map: &[u8], owner: Owner, due: usize, pool: &[u8], out: &mut [u8])
-    ensures { λ _. ⌜ now (out .exit) ≡ delivered (owner .0) due (now (map .entry)) (now (pool .entry)) (now (out .entry)) ⌝ }
+// Writes the next `due` bytes of the owner's blocks, from a block on, to out from a place on: it copies one block and calls itself for the rest.
+// Bytes still due fall. The slices lie behind references, which each call hands on as they are: no call is lent a local, and so the compiler
+// makes a jump of it. `at-last`: out is still the same slice, with other bytes. A slice behind a reference does not say that it is `Sized`.
+fn deliver_from(
+    map: &&[u8],
+    owner: Owner,
+    from: BlockNumber,
+    at: usize,
+    due: usize,
+    pool: &&[u8],
+    out: &mut &mut [u8],
+)
+    requires { ⌜ Sized (now (now map)) × Sized (now (now pool)) × Sized (now (now out)) × (at + due ≤ length (now (now out))) ⌝ }
+    ensures { λ _. ⌜ now (out .exit) ≡ at-last (now (out .entry))
+        (deliveredFrom (owner .0) (from .0) at due (now (now (map .entry))) (now (now (pool .entry))) (now (now (out .entry)))) ⌝ }
 {
     if due == 0 {
         return;
     }
-    let ahead = scan(map, owner.0, 0);
-    if ahead < map.len() {
-        if starts_inside(ahead, pool.len()) {
-            let start = BLOCK_SIZE * ahead;
-            let size = numbers::least(BLOCK_SIZE, pool.len() - start);
+    let entries = *map;
+    let block = scan(entries, owner.0, from, 0);
+    if block.0 < entries.len() {
+        let bytes = *pool;
+        if starts_inside(block, bytes.len()) {
+            let start = BLOCK_SIZE * block.0;
+            let size = numbers::least(BLOCK_SIZE, bytes.len() - start);
             let n = numbers::least(size, due);
             let end = start + n;
-            overwrite(&pool[start..end], 0, out);
-            if n < out.len() {
-                let later = ahead + 1;
-                let behind = start + size;
-                deliver_blocks(
-                    &map[later..],
-                    owner,
-                    due - n,
-                    &pool[behind..],
-                    &mut out[n..],
-                );
-            }
+            overwrite(&bytes[start..end], at, *out);
+            let next = BlockNumber(block.0 + 1);
+            deliver_from(map, owner, next, at + n, due - n, pool, out);
         }
     }
 }
 
-// Writes the first `due` bytes of the owner's blocks to the front of out: the blocks among a few entries of the map, and so on.
+// Starts the delivery. It hands out back, since what a local lent is known to be out again only where it is the result.
+fn deliver_whole<'a>(
+    map: &[u8],
+    owner: Owner,
+    due: usize,
+    pool: &[u8],
+    out: &'a mut [u8],
+) -> &'a mut [u8]
+    ensures { λ r. ⌜ r ≡ at-last (out .entry) (delivered (owner .0) due (now (map .entry)) (now (pool .entry)) (now (out .entry))) ⌝ }
+{
+    let most = numbers::least(due, out.len());
+    let mut lent = out;
+    deliver_from(&map, owner, BlockNumber(0), 0, most, &pool, &mut lent);
+    let back = lent;
+    back
+}
+
+// Writes the first `due` bytes of the owner's blocks to the front of out, as far as blocks and out go.
 pub fn deliver(map: &[u8], owner: Owner, due: usize, pool: &[u8], out: &mut [u8])
     ensures { λ _. ⌜ now (out .exit) ≡ delivered (owner .0) due (now (map .entry)) (now (pool .entry)) (now (out .entry)) ⌝ }
 {
-    let most = numbers::least(due, out.len());
-    let whole = numbers::least(map.len(), pool.len() / BLOCK_SIZE);
-    let mut from: usize = 0;
-    let mut done: usize = 0;
-    while FEW <= whole - from {
-        let next = from + FEW;
-        let here = BLOCK_SIZE * wide(count_group(&map[from..next], owner.0));
-        let n = numbers::least(here, most - done);
-        let start = BLOCK_SIZE * from;
-        let until = done + n;
-        deliver_blocks(
-            &map[from..next],
-            owner,
-            n,
-            &pool[start..],
-            &mut out[done..until],
-        );
-        done = until;
-        from = next;
-    }
-    let start = BLOCK_SIZE * from;
-    deliver_blocks(
-        &map[from..],
-        owner,
-        most - done,
-        &pool[start..],
-        &mut out[done..most],
-    );
+    deliver_whole(map, owner, due, pool, out);
 }

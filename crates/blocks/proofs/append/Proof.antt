@@ -1,9 +1,7 @@
 -- `blocks::append` meets its contract: up to the block that is found nothing changes, and `fill` appends from there on; in the first block it appends from the start.
 -- Assumes nothing.
-use Prim.Native.Nat.{_/_}
 use native.Mathlib.Omega.{arith}
 use Rattle.blocks.specs.Pool.{appendedFrom}
-use Rattle.blocks.proofs.Counts.{place-most}
 use Rattle.blocks.proofs.Appends.{from-found}
 use borrow.Author.Needs.{needs}
 use Rattle.blocks.proofs.append.Statement.{statement}
@@ -13,9 +11,6 @@ returns : tie.Need-returns
 unfolding appendedFrom
 returns c = (c .before .before .fill .ensures)
 
-fill-requires-2 : tie.Need-fill-requires-2
-fill-requires-2 c κs = let a = (c .before .before .before .before .before .before .args) in (omega arith, omega (arith, (c .before .find-block .ensures), place-most (a .owner .0) (a .at / 256) (a .map .now)))
-
 returns-2 : tie.Need-returns-2
 returns-2 c = let a = (c .before .before .before .before .before .before .before .before .before .args) in from-found (a .owner .0) (a .at) (a .payload .now) (a .map .now) (a .pool .now) (c .before .before .before .before .find-block .ensures) (c .before .before .fill2 .ensures)
 
@@ -24,5 +19,5 @@ append-spec =
     tie.close
     (tie.spec
     (λ c κs. search needs) (λ c. search needs) returns  -- in the first block
-    (λ c κs. tt)  -- b
-    fill-requires-2 (λ c. search needs) returns-2)  -- behind it
+    (λ c κs. tt)  -- block
+    (λ c κs. omega arith) (λ c. search needs) returns-2)  -- behind it

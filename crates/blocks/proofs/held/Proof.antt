@@ -12,18 +12,18 @@ use Rattle.blocks.proofs.held.Statement.{statement}
 use Rattle.blocks.proofs.held.Tie as tie
 
 abbrev Inv-loop : tie.InvT-loop
-Inv-loop map number count₀ from₀ count from = (from ≤ length map) × (count + heldBy number (drop from map) ≡ heldBy number map)
+Inv-loop map number count₀ from₀ count from = (from .0 ≤ length map) × (count + heldBy number (drop (from .0) map) ≡ heldBy number map)
 
 abbrev μ-loop : tie.MeasureT-loop
-μ-loop map number count₀ from₀ count from = length map - from
+μ-loop map number count₀ from₀ count from = length map - from .0
 
 loop-again : tie.Need-loop-again Inv-loop μ-loop
 loop-again c =
-    let a = (c .before .before .before .before .before .before .args) in
-    (omega arith, omega (arith, (c .wide .ensures), group-turn (a .owner .0) (a .map .now) (c .before .before .before .before .loop .from) 64 (c .before .count-group .ensures)))
+    let a = (c .before .before .before .before .before .before .before .args) in
+    (omega arith, omega (arith, (c .wide .ensures), group-turn (a .owner .0) (a .map .now) (c .before .before .before .before .before .loop .from .0) 64 (c .before .count-group .ensures)))
 
 returns : tie.Need-returns Inv-loop μ-loop
-returns c = let a = (c .before .before .before .before .before .before .args) in omega (arith, rest-count (a .owner .0) (a .map .now) (c .before .before .before .before .loop .from) (c .before .count-group2 .ensures))
+returns c = let a = (c .before .before .before .before .before .before .before .args) in omega (arith, rest-count (a .owner .0) (a .map .now) (c .before .before .before .before .before .loop .from .0) (c .before .count-group2 .ensures))
 
 pub held-spec : {M : Type 1} → statement M
 held-spec =
@@ -32,13 +32,13 @@ held-spec =
     Inv-loop
     μ-loop
     (λ c. search needs)
-    (λ c. search needs)  -- map.len() - from
+    (λ c. search needs)  -- map.len() - from.0
     (λ c. search needs)  -- end
-    (λ c. search needs) (λ c. search needs) (λ c. search needs)  -- &map[from..end]
+    (λ c. search needs) (λ c. search needs) (λ c. search needs)  -- &map[start..end]
     (λ c κs. simp (length-take, length-drop) (omega arith)) (λ c κs. tt)  -- wide(count_group(..))
-    (λ c. omega (arith, loop-again c .1, held-most (c .before .before .before .before .before .before .args .owner .0) (c .before .before .before .before .before .before .args .map .now)))  -- count
-    (λ c. search needs)  -- map.len() - from falls
+    (λ c. omega (arith, loop-again c .1, held-most (c .before .before .before .before .before .before .before .args .owner .0) (c .before .before .before .before .before .before .before .args .map .now)))  -- count
+    (λ c. search needs)  -- map.len() - from.0 falls
     loop-again
-    (λ c. search needs) (λ c. search needs) (λ c. search needs)  -- &map[from..]
-    (λ c κs. simp (length-take, length-drop) (omega arith)) (λ c κs. tt) (λ c. omega (arith, returns c, held-most (c .before .before .before .before .before .before .args .owner .0) (c .before .before .before .before .before .before .args .map .now)))  -- the sum
+    (λ c. search needs) (λ c. search needs) (λ c. search needs)  -- &map[start..]
+    (λ c κs. simp (length-take, length-drop) (omega arith)) (λ c κs. tt) (λ c. omega (arith, returns c, held-most (c .before .before .before .before .before .before .before .args .owner .0) (c .before .before .before .before .before .before .before .args .map .now)))  -- the sum
     returns)
