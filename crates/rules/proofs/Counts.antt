@@ -10,6 +10,7 @@ use lib.ListN.{length}
 use borrow.Author.Tests.{eqb-true, eq-eqb, leb-true, le-leb}
 use Rattle.numbers.specs.Bytes.{pick}
 use Rattle.numbers.proofs.Choices.{and-yes, and-both, same-or-not}
+use Rattle.frame.specs.declared.SessionId.{SessionId}
 use Rattle.link.proofs.Table.{owner-next}
 use Rattle.blocks.specs.Map.{heldBy, heldByAll, freeIn}
 use Rattle.blocks.proofs.Counts.{held-mine, held-not, all-none}
@@ -261,13 +262,13 @@ module _ (map : List ℕ) where
 -- ---- what a survey finds
 
 -- the rules of a link, by what one pass over its rows found
-rules-found : (l : Link) (fit : Bool) (held shared : ℕ) (ids : List ℕ) → length (l .owners) ≡ 256 → Summed l fit held shared ids
+rules-found : (l : Link) (fit : Bool) (held shared : ℕ) (ids : List SessionId) → length (l .owners) ≡ 256 → Summed l fit held shared ids
     → distinctIn ids && (fit && (leb shared 256 && eqb (held + freeIn (l .owners)) 256)) ≡ rulesHold l
 unfolding rulesHold
 rules-found l fit held shared ids whole s =
     rw (s .names, s .fits, s .shares, s .holds, distinct-ids (l .rows), rules-same (l .owners) (l .version .major) (l .rows) whole (s .eight) (s .five))
 
-module _ (l : Link) (pool : ℕ) (g : Grant) (fit : Bool) (held shared : ℕ) (ids : List ℕ) (whole : length (l .owners) ≡ 256) (s : Summed l fit held shared ids) where
+module _ (l : Link) (pool : ℕ) (g : Grant) (fit : Bool) (held shared : ℕ) (ids : List SessionId) (whole : length (l .owners) ≡ 256) (s : Summed l fit held shared ids) where
   -- refusal 10, by what was found
   pub guard-found : (settings granted apart : Bool) (free : ℕ) → settings ≡ settingsFit (l .version) (l .mtu) → granted ≡ grantFits g → apart ≡ distinctIn ids → free ≡ freeIn (l .owners)
       → eqb pool 65536 && (settings && (granted && (apart && (fit && (leb shared 256 && eqb (held + free) 256))))) ≡ guardOf l pool g

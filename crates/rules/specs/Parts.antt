@@ -6,9 +6,11 @@ use mathlib.Core.List.{List, [], _∷_}
 use lib.Dec.{eqb}
 use lib.ListN.{length}
 use Rattle.numbers.specs.Bytes.{pick}
+use Rattle.frame.specs.declared.SessionId.{SessionId}
 use Rattle.blocks.specs.Map.{heldBy}
 use Rattle.session.specs.declared.Reassembly.{Reassembly}
 use Rattle.session.specs.declared.Row.{Row}
+use Rattle.session.specs.Rows.{noSessionId}
 use Rattle.session.specs.Decide.{needOf, heldOf, shareOf}
 use Rattle.link.specs.Pages.{FiveEach}
 use Rattle.link.specs.declared.Link.{Link}
@@ -24,28 +26,30 @@ abbrev pub sessionFits : ℕ → Row → Bool
 sessionFits major r = roomFits r && (versionAllowed major (r .version) && (unsettledFits r && allFrom 0 (messageFits r) (r .messages)))
 
 -- the rows' ids
-abbrev pub idsOf : List Row → List ℕ
+abbrev pub idsOf : List Row → List SessionId
 idsOf [] = []
-idsOf (r ∷ rs) = r .id .0 ∷ idsOf rs
+idsOf (r ∷ rs) = r .id ∷ idsOf rs
 
 -- where an id stands; the number of ids if it is not there
-unfoldable pub indexIn : ℕ → List ℕ → ℕ
-indexIn number [] = 0
-indexIn number (id ∷ ids) = pick (eqb id number) 0 (suc (indexIn number ids))
+unfoldable pub indexIn : SessionId → List SessionId → ℕ
+indexIn id [] = 0
+indexIn id (first ∷ ids) = pick (eqb (first .0) (id .0)) 0 (suc (indexIn id ids))
 
--- the lowest of so many numbers from k on that is no id; 0 if each is one
-unfoldable pub lowestUnused : ℕ → ℕ → List ℕ → ℕ
-lowestUnused zero k ids = 0
-lowestUnused (suc n) k ids = pick (eqb (indexIn k ids) (length ids)) k (lowestUnused n (suc k) ids)
+-- the id with the lowest of so many numbers from k on that none of these has; 0 if each is taken
+unfoldable pub lowestUnused : ℕ → ℕ → List SessionId → SessionId
+lowestUnused zero k ids = noSessionId
+lowestUnused (suc n) k ids =
+    let id : SessionId = record { 0 = k } in
+    pick (eqb (indexIn id ids) (length ids)) id (lowestUnused n (suc k) ids)
 
 -- no id is this one
-abbrev pub missingIn : ℕ → List ℕ → Bool
-missingIn number ids = all (λ (id : ℕ). not (eqb id number)) ids
+abbrev pub missingIn : SessionId → List SessionId → Bool
+missingIn id ids = all (λ (one : SessionId). not (eqb (one .0) (id .0))) ids
 
 -- an id other than 0 is not found again
-unfoldable pub distinctIn : List ℕ → Bool
+unfoldable pub distinctIn : List SessionId → Bool
 distinctIn [] = true
-distinctIn (id ∷ ids) = (eqb id 0 || missingIn id ids) && distinctIn ids
+distinctIn (id ∷ ids) = (eqb (id .0) 0 || missingIn id ids) && distinctIn ids
 
 -- an open message's owner has as many blocks as it needs; of one that is not open nothing is said
 unfoldable pub holdsNeed : List ℕ → ℕ → Reassembly → Bool
@@ -70,8 +74,8 @@ unfoldable pub shareSum : List Row → ℕ
 shareSum [] = 0
 shareSum (r ∷ rs) = ofSession shareOf r + shareSum rs
 
--- what one pass over the rows of a link finds: whether they fit, what they hold and share, their ids. Rows, messages and map have their lengths.
-pub record Summed (l : Link) (fit : Bool) (held shared : ℕ) (ids : List ℕ) : Type 0 where
+-- what one pass over the rows of a link finds: whether they fit, what they hold and share, their ids. The rows are eight, and each has five messages.
+pub record Summed (l : Link) (fit : Bool) (held shared : ℕ) (ids : List SessionId) : Type 0 where
   pub fits : fit ≡ allFrom 0 (rowSound (l .version .major) (l .owners)) (l .rows)
   pub holds : held ≡ heldSum (l .rows)
   pub most : held ≤ 671088640

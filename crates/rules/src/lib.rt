@@ -23,13 +23,12 @@ use session::Row;
 const SERVICES: [u8; 5] = [0, 7, 10, 11, 15];
 
 // Where an id stands among the rows' ids; 8 if no row has it.
-pub fn index_of(ids: [u8; 8], id: SessionId) -> usize
-    ensures { λ r. ⌜ (r ≡ indexIn (id .0) ids) × (r ≤ 8) ⌝ }
+pub fn index_of(ids: [SessionId; 8], id: SessionId) -> usize
+    ensures { λ r. ⌜ (r ≡ indexIn id ids) × (r ≤ 8) ⌝ }
 {
-    let number = id.0;
     let mut i: usize = 0;
     while i < 8 {
-        if ids[i] == number {
+        if ids[i].0 == id.0 {
             return i;
         }
         i += 1;
@@ -38,14 +37,14 @@ pub fn index_of(ids: [u8; 8], id: SessionId) -> usize
 }
 
 // The lowest id from 1 to 255 that no row has; 0 if each has a row, which eight rows cannot bring about.
-pub fn lowest_free(ids: [u8; 8]) -> SessionId
-    ensures { λ r. ⌜ r .0 ≡ lowestUnused 255 1 ids ⌝ }
+pub fn lowest_free(ids: [SessionId; 8]) -> SessionId
+    ensures { λ r. ⌜ r ≡ lowestUnused 255 1 ids ⌝ }
 {
     let mut number: usize = 1;
     while number < 256 {
-        let id = number as u8;
-        if index_of(ids, SessionId(id)) == 8 {
-            return SessionId(id);
+        let id = SessionId(number as u8);
+        if index_of(ids, id) == 8 {
+            return id;
         }
         number += 1;
     }
@@ -67,39 +66,39 @@ fn grant_fits(grant: Grant) -> bool
 }
 
 // Whether no id from a place on is this one.
-fn is_missing(ids: [u8; 8], from: usize, number: u8) -> bool
+fn is_missing(ids: [SessionId; 8], from: usize, id: SessionId) -> bool
     requires { ⌜ from ≤ 8 ⌝ }
-    ensures { λ r. ⌜ r ≡ missingIn number (drop from ids) ⌝ }
+    ensures { λ r. ⌜ r ≡ missingIn id (drop from ids) ⌝ }
 {
     let mut missing = true;
     let mut i = from;
     while i < 8 {
-        missing = missing & (ids[i] != number);
+        missing = missing & (ids[i].0 != id.0);
         i += 1;
     }
     missing
 }
 
 // A free row has no id to be found again.
-fn is_once(ids: [u8; 8], from: usize, number: u8) -> bool
+fn is_once(ids: [SessionId; 8], from: usize, id: SessionId) -> bool
     requires { ⌜ from ≤ 8 ⌝ }
-    ensures { λ r. ⌜ r ≡ (eqb number 0 || missingIn number (drop from ids)) ⌝ }
+    ensures { λ r. ⌜ r ≡ (eqb (id .0) 0 || missingIn id (drop from ids)) ⌝ }
 {
-    if number == 0 {
+    if id.0 == 0 {
         return true;
     }
-    is_missing(ids, from, number)
+    is_missing(ids, from, id)
 }
 
 // A row that is not free has an id that no later row has.
-fn distinct(ids: [u8; 8]) -> bool
+fn distinct(ids: [SessionId; 8]) -> bool
     ensures { λ r. ⌜ r ≡ distinctIn ids ⌝ }
 {
     let mut apart = true;
     let mut i: usize = 0;
     while i < 8 {
-        let number = ids[i];
-        apart = apart & is_once(ids, i + 1, number);
+        let id = ids[i];
+        apart = apart & is_once(ids, i + 1, id);
         i += 1;
     }
     apart
@@ -253,24 +252,25 @@ struct Sums {
     fit: bool,
     held: usize,
     shared: usize,
-    ids: [u8; 8],
+    ids: [SessionId; 8],
 }
 
-// One pass over the rows. The map has 256 entries, for the caller's proof.
+// One pass over the rows. They are eight and each has five messages, for the caller's proof.
 fn sum_rows(link: Link) -> Sums
     ensures { λ r. ⌜ Summed link (r .fit) (r .held) (r .shared) (r .ids) ⌝ }
 {
     let mut fit = true;
     let mut held: usize = 0;
     let mut shared: usize = 0;
-    let mut ids = [0u8; 8];
+    let mut ids = [SessionId(0); 8];
     let mut i: usize = 0;
     while i < 8 {
         let row = link.rows[i];
         fit = fit & row_fits(link.version.major, &link.owners, i, row);
         held += held_of(row);
         shared += share_of(row);
-        ids[i] = row.id.0;
+        let id = row.id;
+        ids[i] = id;
         i += 1;
     }
     Sums {
@@ -288,7 +288,7 @@ pub struct Overview {
     // the sum over sessions of the larger of held and guaranteed
     pub shared: usize,
     // the rows' ids
-    pub ids: [u8; 8],
+    pub ids: [SessionId; 8],
 }
 
 // Whether refusal 10 is earned: the pool's length, the settings, the offer and the state are as they must be, or not. If each open message holds

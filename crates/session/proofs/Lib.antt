@@ -1,2 +1,3 @@
 mod Outcomes
 mod Turns
+pub mod Laws

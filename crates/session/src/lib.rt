@@ -8,7 +8,7 @@ ghost use Prim.Native.Nat.{_+_, _-_, _^_, _<_, _≤_, min, max};
 ghost use lib.ListN.{length};
 ghost use Rattle.session.specs.Rules.{replyVersion, versionFits, mtuFits, isRunning, serviceFits, takesBeats, commandFits, barredBy};
 ghost use Rattle.session.specs.Decide.{placeOf, needOf, messageBlocks, heldIn, heldOf, shareOf, firstOf, dueNumber, sized, nextFor, singleOf, contentOf, startable, startingOf, endable, hashOf, endingOf, controlOf, rowAfter};
-ghost use Rattle.session.specs.Rows.{messageAt, noReassembly, freeRow, openedRow, ackedRow, settledRow, admittedRow, fedRow, droppedRow, withService, startedRow, stoppedRow};
+ghost use Rattle.session.specs.Rows.{messageAt, noReassembly, freeRow, openedRow, ackedRow, settledRow, admittedRow, fedRow, droppedRow, withService, startedRow, stoppedRow, closedRow};
 use frame::Header;
 use frame::MessageId;
 use frame::ServiceType;
@@ -41,7 +41,7 @@ pub struct Row {
     // the settled protocol version, 0 while unsettled
     pub version: u8,
     // the message id of its next counted ACK
-    pub next: u32,
+    pub next: MessageId,
     // the hash of service 07, which runs as long as the session
     pub hash: u32,
     pub audio: Running,
@@ -106,7 +106,7 @@ impl Row {
             guarantee: 0,
             cap: 0,
             version: 0,
-            next: 0,
+            next: MessageId(0),
             hash: 0,
             audio: Running { on: false, hash: 0 },
             video: Running { on: false, hash: 0 },
@@ -118,12 +118,13 @@ impl Row {
     pub fn opened(id: SessionId, guarantee: u16, cap: u16, version: u8, hash: u32) -> Row
         ensures { λ r. ⌜ r ≡ openedRow id guarantee cap version hash ⌝ }
     {
+        let next = MessageId(2);
         let mut row = Row::free();
         row.id = id;
         row.guarantee = guarantee;
         row.cap = cap;
         row.version = version;
-        row.next = 2;
+        row.next = next;
         row.hash = hash;
         row
     }
@@ -132,7 +133,8 @@ impl Row {
     pub fn acked(mut self) -> Row
         ensures { λ r. ⌜ r ≡ ackedRow self ⌝ }
     {
-        self.next = std::num::wrapping_add_u32(self.next, 1);
+        let next = MessageId(std::num::wrapping_add_u32(self.next.0, 1));
+        self.next = next;
         self
     }
 
@@ -216,6 +218,13 @@ impl Row {
             self.messages[place] = no_reassembly();
         }
         self
+    }
+
+    // After the session's close, whatever it held: a free row.
+    pub fn closed(self) -> Row
+        ensures { λ r. ⌜ r ≡ closedRow self ⌝ }
+    {
+        Row::free()
     }
 }
 
@@ -571,7 +580,7 @@ pub fn row_after(row: Row, header: Header, hash: u32, act: Act) -> Row
         Act::Start => row.started(service, hash).acked(),
         Act::NoStart => row,
         Act::Stop => row.dropped(place).stopped(service).acked(),
-        Act::Close => Row::free(),
+        Act::Close => row.closed(),
         Act::NoEnd(_) => row,
         Act::Claim(total, count) => row.admitted(place, message, total, count)
             .settled(header.version),

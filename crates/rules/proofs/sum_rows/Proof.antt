@@ -24,14 +24,14 @@ loop-holds : tie.Need-loop-holds Inv-loop μ-loop
 loop-holds c = (omega arith, (refl, (omega arith, (omega arith, (omega arith, (omega arith, (λ k h. absurd (omega arith), (refl, refl))))))))
 
 loop-again : tie.Need-loop-again Inv-loop μ-loop
-loop-again c = let l = (c .before .before .before .before .before .before .before .before .loop) in
-    let k = c .before .before .before .before .before .before .before .before .before .args .t1 in
-    let size : length (k .rows) ≡ 8 = sym (length-map (k .rows) _) ∙ (c .before .before .before .before .before .before .before .before .before .good .0 .1 .1 .1 .1 .0 .1 .0 .1) in
+loop-again c = let l = (c .before .before .before .before .before .before .before .before .before .loop) in
+    let k = c .before .before .before .before .before .before .before .before .before .before .args .t1 in
+    let size : length (k .rows) ≡ 8 = sym (length-map (k .rows) _) ∙ (c .before .before .before .before .before .before .before .before .before .before .good .0 .1 .1 .1 .1 .0 .1 .0 .1) in
     let inside : l .i < length (k .rows) = omega arith in
     let held = held-at (k .rows) (l .i) inside in
     let shared = share-at (k .rows) (l .i) inside in
     let kept = l .inv .1 .1 .1 .1 .1 .1 in
-    (omega arith, (rw (c .before .before .row-fits .ensures .0) (sym (from-turn noRow (l .fit) (rowSound (k .version .major) (k .owners)) (k .rows) (l .i) inside) ∙ l .inv .1 .0), (omega arith, (omega (arith, (c .before .held-of .ensures .0)), (omega arith, (omega (arith, (c .share-of .ensures .0)), (five-more (l .i) (k .rows) (kept .0) (c .before .before .row-fits .ensures .1), (simp length-set (kept .1 .0), ids-more (l .ids) (k .rows) (l .i) (omega arith) inside (kept .1 .1)))))))))
+    (omega arith, (rw (c .before .before .before .row-fits .ensures .0) (sym (from-turn noRow (l .fit) (rowSound (k .version .major) (k .owners)) (k .rows) (l .i) inside) ∙ l .inv .1 .0), (omega arith, (omega (arith, (c .before .before .held-of .ensures .0)), (omega arith, (omega (arith, (c .before .share-of .ensures .0)), (five-more (l .i) (k .rows) (kept .0) (c .before .before .before .row-fits .ensures .1), (simp length-set (kept .1 .0), ids-more (l .ids) (k .rows) (l .i) (omega arith) inside (kept .1 .1)))))))))
 
 returns : tie.Need-returns Inv-loop μ-loop
 returns c = let l = (c .before .loop) in
@@ -59,7 +59,7 @@ sum-rows-spec =
     μ-loop
     loop-holds
     (λ c. search needs) (λ c. search needs) (λ c κs. search needs) (λ c κs. search needs)  -- mul-row, element-copy-out-row, row-fits-requires, held-of-requires
-    (λ c. search needs) (λ c κs. search needs) (λ c. search needs) (λ c. search needs)  -- add-held, share-of-requires, add-shared, array-write-ids
+    (λ c. search needs) (λ c κs. search needs) (λ c. search needs) (λ c. search needs)  -- add-held, share-of-requires, add-shared, array-set-from-ids
     (λ c. search needs) (λ c. search needs)  -- add-i, loop-less
     loop-again
     returns)

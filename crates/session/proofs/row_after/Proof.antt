@@ -37,7 +37,7 @@ returns-7 c =
     rw (c .before .before .before .enum-told7 .given .1) ((c .acked2 .ensures) ∙ ap (λ (r : Row). ackedRow r) ((c .before .stopped .ensures) ∙ ap (λ (r : Row). stoppedRow r (a .header .service)) ((c .before .before .dropped2 .ensures) ∙ ap (λ (n : ℕ). droppedRow (a .row) n) p)))
 
 returns-8 : tie.Need-returns-8
-returns-8 c = rw (c .before .enum-told8 .given .1) (c .free .ensures)
+returns-8 c = rw (c .before .enum-told8 .given .1) (c .closed .ensures)
 
 returns-9 : tie.Need-returns-9
 returns-9 c = rw (c .enum-told9 .given .1)
@@ -72,7 +72,7 @@ row-after-spec =
     (λ c κs. search needs) (λ c. search needs) (λ c. search needs) (λ c κs. search needs)  -- place-of-requires, enum-told, enum-told-2, dropped-requires
     (λ c. search needs) (λ c. search needs) (λ c. search needs) (λ c κs. search needs)  -- enum-told-3, enum-told-4, enum-told-5, started-requires
     (λ c κs. search needs) (λ c. search needs) (λ c. search needs) (λ c κs. search needs)  -- acked-requires, enum-told-6, enum-told-7, dropped-requires-2
-    (λ c κs. search needs) (λ c κs. search needs) (λ c. search needs) (λ c κs. search needs)  -- stopped-requires, acked-requires-2, enum-told-8, free-requires
+    (λ c κs. search needs) (λ c κs. search needs) (λ c. search needs) (λ c κs. search needs)  -- stopped-requires, acked-requires-2, enum-told-8, closed-requires
     (λ c. search needs) (λ c. search needs) (λ c κs. search needs) (λ c κs. search needs)  -- enum-told-9, enum-known-act, admitted-requires, settled-requires
     (λ c. search needs) (λ c κs. search needs) (λ c. search needs) (λ c κs. search needs)  -- enum-told-10, fed-requires, enum-told-11, dropped-requires-3
     (λ c. search needs) (λ c κs. search needs)  -- enum-told-12, settled-requires-2
