@@ -2,7 +2,7 @@
 -- shows here what it answers instead; the must-fail edits are such changes. The calls are past 10, on a pool of one block, which saves the checker
 -- most of its steps.
 -- Assumes nothing.
-use Prim.Native.Nat.{ℕ, _-_, _*_}
+use Prim.Native.Nat.{ℕ, _+_, _-_, _*_}
 use mathlib.Core.Path.{_≡_, refl}
 use mathlib.Core.Bool.{true, false}
 use mathlib.Core.Option.{Option, none, some}
@@ -10,12 +10,13 @@ use mathlib.Core.List.{List, [], _∷_, _++_}
 use lib.Dec.{leb}
 use lib.ListN.{length, take, replicate}
 use Rattle.numbers.specs.Numbers.{valueLe, valueBe, bytesLe, bytesBe}
+use Rattle.frame.specs.declared.ServiceType.{ServiceType}
 use Rattle.frame.specs.Rules.{knownVersion, listedService, infoFits, flagFits, largest, sizeFits, faultOf, headerSize}
 use Rattle.frame.specs.Read.{frontOf, messageOf, readOf}
 use Rattle.frame.specs.Write.{messageBytes, frameBytes}
 use Rattle.frame.specs.Message.{frameNumber, totalsFit}
 use Rattle.payload.specs.Walk.{payloadOf, documentOf}
-use Rattle.blocks.specs.Map.{heldBy, heldByAll, freeMap, claimed, released}
+use Rattle.blocks.specs.Map.{heldBy, heldByAll, freeIn, freeMap, claimed, released}
 use Rattle.blocks.specs.Pool.{blockBytes, over, appended}
 use Rattle.session.specs.declared.Row.{Row}
 use Rattle.session.specs.Rows.{freeRow, openedRow, admittedRow, fedRow, settledRow, withMessageAt, withService}
@@ -24,8 +25,9 @@ use Rattle.session.specs.Decide.{placeOf, needOf, messageBlocks, heldIn, firstO
 use Rattle.link.specs.State.{indexOf, ownerOf, sharesIn, distinctIds, roomFits, versionAllowed, serviceAt, messageFits, unsettledFits, blocksFit, freeFits, rowFits, rulesHold, settingsFit, grantFits, guardOf, lowestFree}
 use Rattle.link.specs.Reply.{grantedPayload}
 use Rattle.link.specs.Call.{After, readingOf, wishOf, opens, admits, oldVersion, saidOf, decisionOf, frameOf, callOf}
-use Rattle.link.specs.Book.{Command, call, askOf, seenOf, Page, lowestNotIn, needsIn, needsOf, added, struck, bookAfter, dueFor, dueOf, valuesOf}
-use Rattle.link.specs.Claim.{State, isOpen, blocksOf}
+use Rattle.link.specs.Values.{valuesOf}
+use Rattle.link.specs.Book.{Command, call, askOf, seenOf, lowestNotIn, needsIn, needsAt, needsInAll, added, struck, bookAfter, Due, dueFor, dueOf}
+use Rattle.link.specs.Claim.{State, isOpen, blocksOf, frontSize}
 use Rattle.link.specs.Pages.{rowOf, noteOf, notesFrom, pages}
 
 -- ---- states: sessions 1 and 2 in the first two rows
@@ -87,7 +89,7 @@ left s c = record { link = went s c .link; pool = went s c .pool }
 
 -- ---- laws
 
--- "every state after a list keeps the state rules"
+-- every state after a list keeps the state rules
 abbrev Kept : State → Command → Type 0
 Kept s c = rulesHold (went s c .link) ≡ true
 
@@ -95,22 +97,27 @@ Kept s c = rulesHold (went s c .link) ≡ true
 abbrev Shared : State → Command → Type 0
 Shared s c = leb (sharesIn (went s c .link .rows)) 256 ≡ true
 
-abbrev needs : Option Page → ℕ
-needs none = 0
-needs (some p) = needsOf p
-
--- "each holds exactly the blocks that its messages in the book need"
+-- "each open session holds exactly as many blocks as its messages in the book need"
 abbrev Room : State → Command → ℕ → Type 0
-Room s c i = blocksOf (left s c) i ≡ needs (bookAfter (pages s) c (went s c .answer) i)
+Room s c i = blocksOf (left s c) i ≡ needsAt (bookAfter (pages s) c (went s c .answer) i)
 
--- "out begins with exactly the joined bytes"
+-- "held and free blocks make 256"
+abbrev Counted : State → Command → Type 0
+Counted s c = needsInAll (bookAfter (pages s) c (went s c .answer)) 255 1 + freeIn (went s c .link .owners) ≡ 256
+
+-- "handed over .. as the bytes joined there"; the service is the message's, and the frame is consumed
 abbrev handed : After → List ℕ
 handed w = take (valuesOf (w .answer) .written) (w .out)
 
-abbrev Delivered : State → Command → Type 0
-Delivered s c = some (handed (went s c)) ≡ dueOf (pages s) c
+abbrev handedOn : Option ServiceType → List ℕ → Option Due
+handedOn none bytes = none
+handedOn (some v) bytes = some (record { service = v .0; bytes = bytes })
 
--- "each kept call has the same answer .. and the same out bytes", whatever the others do
+abbrev Delivered : State → Command → Type 0
+Delivered s c =
+    (handedOn (valuesOf (went s c .answer) .service) (handed (went s c)) ≡ dueOf (pages s) c) × (valuesOf (went s c .answer) .consumed ≡ frontSize c)
+
+-- "gets the same answer .. and the same out bytes in both lists", whatever the others do
 abbrev Alike : State → State → Command → Type 0
 Alike s t c = (valuesOf (went s c .answer) ≡ valuesOf (went t c .answer)) × (went s c .out ≡ went t c .out)
 
@@ -128,8 +135,9 @@ record ActualCalls : Type 0 where
   -- an ACK's number, beside another session and alone
   acks : Alike (state (row 1 100 200) (row 2 100 256) freeMap zeros) (state (row 1 100 200) freeRow freeMap zeros) (frame 1 0 0x0A 0x01 [])
   -- session 2 closes while it holds blocks
-  close : Kept (state (row 1 100 200) (rowWith 2 100 256 600 2) (taken 3 1) zeros) (frame 2 0 0x07 0x04 (bytesBe 4 39027))
+  close : Counted (state (row 1 100 200) (rowWith 2 100 256 600 2) (taken 3 1) zeros) (frame 2 0 0x07 0x04 (bytesBe 4 39027))
+  close-kept : Kept (state (row 1 100 200) (rowWith 2 100 256 600 2) (taken 3 1) zeros) (frame 2 0 0x07 0x04 (bytesBe 4 39027))
 
 actual-calls : ActualCalls
-unfolding knownVersion listedService infoFits flagFits largest sizeFits faultOf headerSize frontOf messageOf readOf valueLe valueBe bytesLe bytesBe messageBytes frameNumber totalsFit payloadOf documentOf heldBy heldByAll freeMap claimed released blockBytes over appended settledRow withMessageAt withService replyVersion versionFits mtuFits isRunning serviceFits takesBeats commandFits barredBy placeOf needOf messageBlocks heldIn firstOf dueNumber sized nextFor singleOf startable startingOf endable hashOf endingOf controlOf contentOf indexOf ownerOf sharesIn distinctIds roomFits versionAllowed serviceAt messageFits unsettledFits blocksFit freeFits rowFits rulesHold settingsFit grantFits guardOf lowestFree grantedPayload wishOf opens admits oldVersion saidOf decisionOf frameOf callOf askOf seenOf lowestNotIn needsIn added struck dueFor isOpen blocksOf rowOf noteOf notesFrom pages
-actual-calls = record { ids = refl; drop = refl; whole = refl; greed = refl; large = (refl, refl); acks = (refl, refl); close = refl }
+unfolding knownVersion listedService infoFits flagFits largest sizeFits faultOf headerSize frontOf messageOf readOf valueLe valueBe bytesLe bytesBe messageBytes frameNumber totalsFit payloadOf documentOf heldBy heldByAll freeMap claimed released blockBytes over appended settledRow withMessageAt withService replyVersion versionFits mtuFits isRunning serviceFits takesBeats commandFits barredBy placeOf needOf messageBlocks heldIn firstOf dueNumber sized nextFor singleOf startable startingOf endable hashOf endingOf controlOf contentOf indexOf ownerOf sharesIn distinctIds roomFits versionAllowed serviceAt messageFits unsettledFits blocksFit freeFits rowFits rulesHold settingsFit grantFits guardOf lowestFree grantedPayload wishOf opens admits oldVersion saidOf decisionOf frameOf callOf askOf seenOf lowestNotIn needsIn needsInAll added struck dueFor isOpen blocksOf rowOf noteOf notesFrom pages
+actual-calls = record { ids = refl; drop = refl; whole = (refl, refl); greed = refl; large = (refl, refl); acks = (refl, refl); close = refl; close-kept = refl }

@@ -20,9 +20,9 @@ use Rattle.link.specs.Book.{Request, Command, call, Seen}
 use Rattle.link.specs.Claim.{State, stateAfter}
 use Rattle.link.specs.Pages.{Sane}
 use Rattle.link.proofs.Shown.{is-open}
-use Rattle.link.proofs.Table.{five-set}
+use Rattle.link.proofs.Table.{five-set, ids-set, lowest-between}
 use Rattle.link.proofs.Decisions.{decided}
-use Rattle.link.proofs.Calls.{newRow, guard-is, Called, short, refused, nacked, acked, in-row, called}
+use Rattle.link.proofs.Calls.{newRow, admitted, guard-is, Called, short, refused, nacked, acked, in-row, called}
 use Rattle.link.proofs.RowFacts.{open-facts}
 use Rattle.link.proofs.TableRules.{session-sane}
 use Rattle.link.proofs.OpeningRules.{old-allowed, new-allowed, opened-rules}
@@ -43,6 +43,7 @@ module _ (s : State) (q : Request) (k : Sane s) where
       record {
         rows = length-set (l .rows) (indexOf 0 (l .rows)) (newRow l (q .grant) v) ∙ k .rows;
         five = five-set (l .rows) (indexOf 0 (l .rows)) (newRow l (q .grant) v) (k .five) refl;
+        ids = ids-set (l .rows) (indexOf 0 (l .rows)) (newRow l (q .grant) v) (admitted (l .rows) (q .grant) a .0) (lowest-between (l .rows) (k .rows) .1) (k .ids);
         owners = k .owners;
         pool = k .pool;
         settings = k .settings;

@@ -22,7 +22,7 @@ use Rattle.frame.specs.Message.{totalsFit}
 use Rattle.session.specs.declared.Row.{Row}
 use Rattle.session.specs.declared.Act.{Act}
 use Rattle.session.specs.declared.Act.the-variants.{Refuse, Drop, Accept, Beat, Start, NoStart, Stop, Close, NoEnd, Claim, Append, Deliver, Single}
-use Rattle.session.specs.Rows.{noRow, messageAt}
+use Rattle.session.specs.Rows.{noMessageId, noRow, messageAt}
 use Rattle.session.specs.Rules.{replyVersion, barredBy}
 use Rattle.payload.specs.declared.version.Version.{Version}
 use Rattle.payload.specs.Tags.{hashId}
@@ -34,7 +34,7 @@ use Rattle.link.specs.declared.Answer.{Answer}
 use Rattle.link.specs.declared.Answer.the-variants as answer
 use Rattle.link.specs.Reply.{replyBytes, startAck, startNak, endAck, endNak, beatAck, grantedPayload}
 use Rattle.link.specs.Call.{After, saidOf, decisionOf, applied}
-use Rattle.link.specs.Book.{Request, Command, call, next, Seen, within, askOf, dueOn, names, Page, needsIn, reachesRoom, ModestOn, ModestIn}
+use Rattle.link.specs.Book.{Request, Command, call, next, Seen, within, askOf, Due, dueOn, names, Page, needsIn, reachesRoom, ModestOn, ModestIn}
 use Rattle.link.specs.Claim.{State, eventOf, isOpen, DeliversDue}
 use Rattle.link.specs.Pages.{notesFrom, pageOf, pages, Sane}
 use Rattle.link.proofs.Table.{shares-modest}
@@ -60,10 +60,10 @@ abbrev Like : After → After → Type 0
 Like v w = (v .answer ≡ w .answer) × (v .out ≡ w .out)
 
 -- the same bytes are due, so the same are delivered
-same-bytes : (q : Request) (due : Option (List ℕ)) (c : ℕ) (v : ServiceType) (n : ℕ) (out₁ out₂ : List ℕ)
+same-bytes : (q : Request) (due : Option Due) (c : ℕ) (v : ServiceType) (n : ℕ) (out₁ out₂ : List ℕ)
     → DeliversDue due (record { command = call q; answer = answer.Delivered c v n; out = out₁ }) → DeliversDue due (record { command = call q; answer = answer.Delivered c v n; out = out₂ }) → out₁ ≡ out₂
 same-bytes q none c v n out₁ out₂ f g = let z : _≡_ {A = ℕ} 0 1 = cc in absurd (omega arith)
-same-bytes q (some x) c v n out₁ out₂ f g = f .1 ∙ sym (g .1)
+same-bytes q (some x) c v n out₁ out₂ f g = f .bytes ∙ sym (g .bytes)
 
 -- a frame of a session on which two states agree
 module _ (s₁ s₂ : State) (q : Request) (k₁ : Sane s₁) (k₂ : Sane s₂) (h : Header) (e : Extent) (a : Alike (h .session .0) s₁ s₂) where
@@ -114,16 +114,16 @@ module _ (s₁ s₂ : State) (q : Request) (k₁ : Sane s₁) (k₂ : Sane s₂)
       (kind (e .consumed) (length x) ≡ kind (e .consumed) (length y)) × (laid x (q .out) ≡ laid y (q .out)))
   replied-like kind F = (ap (λ (x : List ℕ). kind (e .consumed) (length x)) (bytes-same F), ap (λ (x : List ℕ). laid x (q .out)) (bytes-same F))
 
-  acts-like : (due : Option (List ℕ)) (act : Act) → Gives q due (done₁ act) → Gives q due (done₂ act) → Like (done₁ act) (done₂ act)
+  acts-like : (due : Option Due) (act : Act) → Gives q due (done₁ act) → Gives q due (done₂ act) → Like (done₁ act) (done₂ act)
   acts-like due (Refuse n) f g = (refl, refl)
   acts-like due (Drop n) f g = (refl, refl)
   acts-like due Accept f g = (refl, refl)
-  acts-like due Beat f g = replied-like answer.Beat (λ v t x. replyBytes (replyVersion (v .major) x) (h .service) beatAck (x .id .0) 0 [])
-  acts-like due Start f g = replied-like answer.Acked (λ v t x. replyBytes (replyVersion (v .major) x) (h .service) startAck (x .id .0) (x .next) (grantedPayload (x .version) (q .grant .hash) t))
-  acts-like due NoStart f g = replied-like answer.Nacked (λ v t x. replyBytes (replyVersion (v .major) x) (h .service) startNak (x .id .0) 0 [])
-  acts-like due Stop f g = replied-like answer.Acked (λ v t x. replyBytes (replyVersion (v .major) x) (h .service) endAck (x .id .0) (x .next) [])
-  acts-like due Close f g = replied-like answer.Acked (λ v t x. replyBytes (replyVersion (v .major) x) (h .service) endAck (x .id .0) (x .next) [])
-  acts-like due (NoEnd named) f g = replied-like answer.Nacked (λ v t x. replyBytes (replyVersion (v .major) x) (h .service) endNak (x .id .0) 0 (pick named (nakPayload hashId) []))
+  acts-like due Beat f g = replied-like answer.Beat (λ v t x. replyBytes (replyVersion (v .major) x) (h .service) beatAck (x .id) noMessageId [])
+  acts-like due Start f g = replied-like answer.Acked (λ v t x. replyBytes (replyVersion (v .major) x) (h .service) startAck (x .id) (x .next) (grantedPayload (x .version) (q .grant .hash) t))
+  acts-like due NoStart f g = replied-like answer.Nacked (λ v t x. replyBytes (replyVersion (v .major) x) (h .service) startNak (x .id) noMessageId [])
+  acts-like due Stop f g = replied-like answer.Acked (λ v t x. replyBytes (replyVersion (v .major) x) (h .service) endAck (x .id) (x .next) [])
+  acts-like due Close f g = replied-like answer.Acked (λ v t x. replyBytes (replyVersion (v .major) x) (h .service) endAck (x .id) (x .next) [])
+  acts-like due (NoEnd named) f g = replied-like answer.Nacked (λ v t x. replyBytes (replyVersion (v .major) x) (h .service) endNak (x .id) noMessageId (pick named (nakPayload hashId) []))
   acts-like due (Claim total count) f g = (refl, refl)
   acts-like due Append f g = (refl, refl)
   acts-like due Deliver f g =
@@ -193,7 +193,7 @@ module _ (s₁ s₂ : State) (q : Request) (k₁ : Sane s₁) (k₂ : Sane s₂)
   row-like : readOf (q .input) ≡ reading.Frame h e → ModestOn (pages s₂ i) (within i (askOf h payload)) (rowCall s₂ q h e .answer) → Like (rowCall s₁ q h e) (rowCall s₂ q h e)
   row-like f m =
       let same = decided-alike m in
-      let due : Option (List ℕ) = dueOn (pages s₂ i) (askOf h payload) in
+      let due : Option Due = dueOn (pages s₂ i) (askOf h payload) in
       let g₁ : Gives q due (rowCall s₁ q h e) = subst (λ (p : Option Page). Gives q (dueOn p (askOf h payload)) (rowCall s₁ q h e)) (a .page) (row-gives s₁ q k₁ h e f open₁) in
       subst (λ (x : Act). Like (done₁ x) (rowCall s₂ q h e)) (sym same) (acts-like due (rowAct s₂ q h e) (subst (λ (x : Act). Gives q due (done₁ x)) same g₁) (row-gives s₂ q k₂ h e f open₂))
 

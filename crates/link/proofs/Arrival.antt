@@ -1,7 +1,7 @@
 -- What our sender cuts arrives whole: after each frame the session's row and page are those of so many frames come, so that the next one is
 -- accepted; other sessions' calls leave both. By induction along the list of calls.
 -- Assumes nothing.
-use Prim.Native.Nat.{ℕ, suc, _+_, _-_, _*_, _≤_, _<_}
+use Prim.Native.Nat.{ℕ, suc, _+_, _-_, _*_, _^_, _≤_, _<_}
 use mathlib.Core.Path.{_≡_, refl, ap, _∙_, sym, subst}
 use mathlib.Core.Logic.{_⊎_, ⊎-elim}
 use mathlib.Core.Bool.{Bool, true, false, _||_, not}
@@ -11,7 +11,7 @@ use native.Mathlib.Omega.{arith}
 use lib.Dec.{T, eqb, leb}
 use lib.ListN.{length, getD, length-set}
 use lib.Seq.{getD-set-same}
-use borrow.Author.Tests.{eqb-true, eq-eqb, ne-eqb, le-leb}
+use borrow.Author.Tests.{eqb-true, eqb-false, eq-eqb, ne-eqb, le-leb}
 use Rattle.numbers.specs.Bytes.{pick}
 use Rattle.numbers.proofs.Choices.{either, split}
 use Rattle.frame.specs.declared.Header.{Header}
@@ -21,8 +21,10 @@ use Rattle.frame.specs.Read.{extentOf, readOf}
 use Rattle.frame.specs.Message.{frameNumber}
 use Rattle.frame.proofs.Laws.{version-range}
 use Rattle.sender.specs.declared.Outgoing.{Outgoing}
-use Rattle.sender.specs.Sender.{countOf, chunkOf, headerFor, joined}
-use Rattle.sender.proofs.Counts.{joined-whole}
+use Rattle.sender.specs.Sender.{fitsOne, countOf, chunkOf, frameAt, bytesOf, lastPlace, joined}
+use Rattle.sender.proofs.Counts.{totals-range, joined-whole}
+use Rattle.sender.proofs.Laws.{at-single}
+use Rattle.sender.proofs.ReadBack.{totals}
 use Rattle.session.specs.declared.Reassembly.{Reassembly}
 use Rattle.session.specs.declared.Row.{Row}
 use Rattle.session.specs.declared.Act.{Act}
@@ -35,12 +37,12 @@ use Rattle.link.specs.declared.Answer.{Answer}
 use Rattle.link.specs.declared.Answer.the-variants as answer
 use Rattle.link.specs.State.{indexOf, serviceAt, grantFits}
 use Rattle.link.specs.Call.{After, opens, decisionOf, applied, frameOf, callOf}
-use Rattle.link.specs.Book.{Request, Command, call, Ask, first, next, Seen, within, askOf, seenOf, names, isAccepted, Note, noNote, Page, Book, noteAt, withNote, pageAfterIf, noted, dueFor, dueOn, dueIn, dueOf}
-use Rattle.link.specs.Claim.{State, stepped, stateAfter, eventOf, stateAfterAll, isOpen, DeliversIt, DeliversDue}
+use Rattle.link.specs.Book.{Request, Command, call, Ask, single, first, next, Seen, within, askOf, seenOf, names, isAccepted, Note, noNote, Page, Book, noteAt, withNote, pageAfterIf, noted, Due, dueAt, dueFor, dueOn, dueIn, dueOf}
+use Rattle.link.specs.Claim.{State, stepped, stateAfter, eventOf, isOpen, consumedBy, frontSize, DeliversIt, DeliversDue}
 use Rattle.link.specs.Pages.{rowOf, notesFrom, pageOf, pages, Sane}
-use Rattle.link.specs.Arrival.{Fronts, Brings, Between, Cut, ArrivesWhole}
+use Rattle.link.specs.Arrival.{Fronts, Brings, InOrder, lastEvent, Arrives, ArrivesWhole}
 use Rattle.link.proofs.Calls.{Called, short, refused, nacked, acked, in-row, called, guard-is, open-test, opens-zero, payloadIn, rowAct, rowCall}
-use Rattle.link.proofs.CutFrames.{wide, some-bytes, front-reads, front-payload, lengths, first-frame, total-told, count-told, partly, after-header, after-frame, chunk-size, chunk-most, chunk-next, appends, delivers}
+use Rattle.link.proofs.CutFrames.{Cut, heardFor, idRead, told-by, wide, some-bytes, last-is, front-reads, front-payload, front-size, lengths, first-frame, total-told, count-told, partly, after-header, after-frame, chunk-size, chunk-most, chunk-next, appends, delivers}
 use Rattle.link.proofs.Holdings.{open-index}
 use Rattle.link.proofs.Others.{Sizes, set-sizes, settled-sizes, other-row, other-page}
 use Rattle.link.proofs.RowFacts.{RowFacts, place-below, service-place, open-facts}
@@ -103,6 +105,17 @@ claims-only : (l : Link) (n : ℕ) (h : Header) (payload : List ℕ) {place id t
 claims-only l n h payload (refuses {n = c} b) f = absurd (f c refl)
 claims-only l n h payload (claims q _ _ _ _ _) f = (q, refl)
 
+-- a message as it is due
+abbrev message-due : Outgoing → List ℕ → Due
+message-due o m = record { service = o .service .0; bytes = m }
+
+-- what is handed over, by the last frame of a message
+arrived : (o : Outgoing) (m : List ℕ) (s : State) (q : Request) → Sane s → T (isAccepted (stepped s q .answer)) → dueOf (pages s) (call q) ≡ some (message-due o m)
+    → frontSize (call q) ≡ length (bytesOf (frameAt o m (lastPlace o m))) → Arrives o m (eventOf s (call q))
+arrived o m s q k accepted due size =
+    subst (λ (n : ℕ). DeliversIt (message-due o m) n (q .out) (stepped s q .out) (stepped s q .answer)) size
+    (subst (λ (x : Option Due). DeliversDue x (eventOf s (call q))) due (hands s (call q) k accepted))
+
 -- ---- a cut message
 
 module _ (o : Outgoing) (m : List ℕ) (cut : Cut o m) where
@@ -117,7 +130,7 @@ module _ (o : Outgoing) (m : List ℕ) (cut : Cut o m) where
 
   -- the book's note when so many consecutive frames have come
   abbrev so-far : ℕ → Note
-  so-far j = record { live = true; id = o .message .0; need = needOf (length m); count = c; came = j; bytes = joined (chunkOf o m) j }
+  so-far j = record { live = true; id = idRead o .0; need = needOf (length m); count = c; came = j; bytes = joined (chunkOf o m) j }
 
   -- ---- between the frames
 
@@ -190,7 +203,7 @@ module _ (o : Outgoing) (m : List ℕ) (cut : Cut o m) where
       done act = applied (s .link) (indexOf i (s .link .rows)) (s .pool) (q .out) h (extentOf h .consumed) (payloadIn q (extentOf h)) (q .grant) act
 
       reads : readOf (q .input) ≡ reading.Frame h (extentOf h)
-      reads = front-reads o m cut q (suc j) 3 (frameNumber (suc j) c) piece below (b .frame) (after-frame o m cut j)
+      reads = front-reads o m (cut .message) q (suc j) (b .frame) 3 (frameNumber (suc j) c) piece (after-frame o m cut j)
 
       comes-to : (act : Act) → nextFor (partly o m cut j) (length (q .out)) h ≡ act → stepped s q ≡ done act
       unfolding decisionOf contentOf
@@ -198,11 +211,11 @@ module _ (o : Outgoing) (m : List ℕ) (cut : Cut o m) where
           let judged : rowAct s q h (extentOf h) ≡ act = rw (is-row, unbarred (s .link .version .major), w .message) e in
           call-is s q (w .sane-state) h (extentOf h) reads opened (b .offer) (b .space) ∙ ap done judged
 
-      seen : seenOf (q .input) ≡ within i (next place (o .message .0) piece)
+      seen : seenOf (q .input) ≡ within i (next place (idRead o .0) piece)
       unfolding askOf
       seen =
           seen-is s q (w .sane-state) h (extentOf h) reads opened
-          ∙ ap (λ (x : List ℕ). within i (next place (o .message .0) x)) (front-payload o m cut q (suc j) 3 (frameNumber (suc j) c) piece below (b .frame) (after-frame o m cut j))
+          ∙ ap (λ (x : List ℕ). within i (next place (idRead o .0) x)) (front-payload o m (cut .message) q (suc j) (b .frame) 3 (frameNumber (suc j) c) piece (after-frame o m cut j))
 
       -- one of the inner frames
       module _ (inner : suc j < c) where
@@ -229,10 +242,10 @@ module _ (o : Outgoing) (m : List ℕ) (cut : Cut o m) where
 
         shown-next : pages (stateAfter s (call q)) i ≡ some (withNote (w .page) place (so-far (suc j)))
         shown-next =
-            told-at s q i (w .sane-state) (next place (o .message .0) piece) seen
-            ∙ ap (λ (x : After). pageAfterIf (pages s i) (next place (o .message .0) piece) (x .answer)) is-append
-            ∙ ap (λ (x : Option Page). pageAfterIf x (next place (o .message .0) piece) (answer.Accepted (extentOf h .consumed))) (w .shown)
-            ∙ ap some (added-on (w .page) place (o .message .0) piece (so-far j) (w .note) (eq-eqb (o .message .0) (o .message .0) refl) (ne-eqb (suc j) c (λ z. omega arith)))
+            told-at s q i (w .sane-state) (next place (idRead o .0) piece) seen
+            ∙ ap (λ (x : After). pageAfterIf (pages s i) (next place (idRead o .0) piece) (x .answer)) is-append
+            ∙ ap (λ (x : Option Page). pageAfterIf x (next place (idRead o .0) piece) (answer.Accepted (extentOf h .consumed))) (w .shown)
+            ∙ ap some (added-on (w .page) place (idRead o .0) piece (so-far j) (w .note) (eq-eqb (idRead o .0) (idRead o .0) refl) (ne-eqb (suc j) c (λ z. omega arith)))
 
         feeds : Halfway (stateAfter s (call q)) (suc j)
         feeds = record {
@@ -249,26 +262,30 @@ module _ (o : Outgoing) (m : List ℕ) (cut : Cut o m) where
         }
 
       -- the last one: the message whole
-      whole : suc j ≡ c → length m ≤ length (q .out) → DeliversIt m (q .out) (stepped s q .out) (stepped s q .answer)
+      whole : suc j ≡ c → length m ≤ length (q .out) → Arrives o m (eventOf s (call q))
       unfolding dueFor
       whole last room =
           let is-deliver : stepped s q ≡ done Deliver = comes-to Deliver (delivers o m cut j (length (q .out)) last room) in
           let accepted : T (isAccepted (stepped s q .answer)) = subst (λ (x : After). T (isAccepted (x .answer))) (sym is-deliver) tt in
           let all : joined (chunkOf o m) (suc j) ≡ m = ap (joined (chunkOf o m)) last ∙ joined-whole o m (some-bytes o m cut) (wide o m cut) in
-          let due : dueOf (pages s) (call q) ≡ some m
-          = ap (dueIn (pages s)) seen ∙ ap (λ (x : Option Page). dueOn x (next place (o .message .0) piece)) (w .shown)
-          ∙ due-last (noteAt (w .page) place) j (w .note) last ∙ ap some all in
-          subst (λ (x : Option (List ℕ)). DeliversDue x (eventOf s (call q))) due (hands s (call q) (w .sane-state) accepted)
+          let due : dueOf (pages s) (call q) ≡ some (message-due o m)
+          = ap (dueIn (pages s)) seen ∙ ap (λ (x : Option Page). dueOn x (next place (idRead o .0) piece)) (w .shown)
+          ∙ due-last (noteAt (w .page) place) j (w .note) last
+          ∙ ap (λ (x : List ℕ). some (dueAt place x)) all ∙ ap (λ (x : ℕ). some (record { service = x; bytes = m })) (service-place (o .service) (cut .accepted .ready .service)) in
+          let size : frontSize (call q) ≡ length (bytesOf (frameAt o m (lastPlace o m)))
+          = ap consumedBy reads ∙ front-size o m (cut .message) q (suc j) (b .frame) 3 (frameNumber (suc j) c) piece (after-frame o m cut j)
+          ∙ ap (λ (k : ℕ). length (bytesOf (frameAt o m k))) (last ∙ sym (last-is o m cut)) in
+          arrived o m s q (w .sane-state) accepted due size
         where
-          due-last : (x : Note) (k : ℕ) → x ≡ so-far k → suc k ≡ c → dueFor x (o .message .0) (chunkOf o m (suc k)) ≡ some (joined (chunkOf o m) (suc k))
-          due-last x k e l = rw (e, eq-eqb (o .message .0) (o .message .0) refl, eq-eqb (suc k) c l)
+          due-last : (x : Note) (k : ℕ) → x ≡ so-far k → suc k ≡ c → dueFor place x (idRead o .0) (chunkOf o m (suc k)) ≡ some (dueAt place (joined (chunkOf o m) (suc k)))
+          due-last x k e l = rw (e, eq-eqb (idRead o .0) (idRead o .0) refl, eq-eqb (suc k) c l)
 
   -- ---- the first frame
 
   module _ (s : State) (k : Sane s) (opened : isOpen s i ≡ true) (mtu : o .version ≡ 5 → o .chunk + 12 ≤ s .link .mtu)
       (q : Request) (f : Fronts o m 0 q) (accepted : T (isAccepted (stepped s q .answer))) where
     abbrev first-header : Header
-    first-header = headerFor o 2 0 (length (lengths o m cut))
+    first-header = heardFor o 2 0 (length (lengths o m cut))
 
     abbrev at : ℕ
     at = indexOf i (s .link .rows)
@@ -283,14 +300,14 @@ module _ (o : Outgoing) (m : List ℕ) (cut : Cut o m) where
     claims-done act = applied (s .link) at (s .pool) (q .out) first-header (extentOf first-header .consumed) (payloadIn q (extentOf first-header)) (q .grant) act
 
     first-reads : readOf (q .input) ≡ reading.Frame first-header (extentOf first-header)
-    first-reads = front-reads o m cut q 0 2 0 (lengths o m cut) (omega arith) f (first-frame o m cut)
+    first-reads = front-reads o m (cut .message) q 0 f 2 0 (lengths o m cut) (first-frame o m cut)
 
     -- the book sees its total and its count
-    first-ask : askOf first-header (payloadIn q (extentOf first-header)) ≡ first place (o .message .0) (length m) c
+    first-ask : askOf first-header (payloadIn q (extentOf first-header)) ≡ first place (idRead o .0) (length m) c
     unfolding askOf
-    first-ask = rw (front-payload o m cut q 0 2 0 (lengths o m cut) (omega arith) f (first-frame o m cut), total-told o m cut, count-told o m cut)
+    first-ask = rw (front-payload o m (cut .message) q 0 f 2 0 (lengths o m cut) (first-frame o m cut), total-told o m cut, count-told o m cut)
 
-    first-seen : seenOf (q .input) ≡ within i (first place (o .message .0) (length m) c)
+    first-seen : seenOf (q .input) ≡ within i (first place (idRead o .0) (length m) c)
     first-seen = seen-is s q k first-header (extentOf first-header) first-reads opened ∙ ap (within i) first-ask
 
     comes : stepped s q ≡ rowCall s q first-header (extentOf first-header)
@@ -302,7 +319,7 @@ module _ (o : Outgoing) (m : List ℕ) (cut : Cut o m) where
     claimed : Served (s .link .version .major) (s .link .mtu) old first-header × (rowAct s q first-header (extentOf first-header) ≡ claim)
     claimed =
         let act : Act = rowAct s q first-header (extentOf first-header) in
-        let d : Decided (s .link) at first-header (payloadIn q (extentOf first-header)) (first place (o .message .0) (length m) c) act
+        let d : Decided (s .link) at first-header (payloadIn q (extentOf first-header)) (first place (idRead o .0) (length m) c) act
         = rw first-ask at (decided (s .link) at first-header (payloadIn q (extentOf first-header)) (length (q .out))) in
         claims-only (s .link) at first-header (payloadIn q (extentOf first-header)) d
         (λ n e. subst (λ (x : Act). T (isAccepted (claims-done x .answer))) e (subst (λ (x : After). T (isAccepted (x .answer))) comes accepted))
@@ -322,23 +339,23 @@ module _ (o : Outgoing) (m : List ℕ) (cut : Cut o m) where
     first-message =
         let a : length m - 0 * o .chunk ≡ length m = omega arith in
         let b : c - 0 ≡ c = omega arith in
-        ap (λ (x : Sizes). getD (x .messages) place noReassembly) (settled-sizes (withMessageAt old place (announced (o .message) (length m) c)) (o .version))
-        ∙ set-message old place (announced (o .message) (length m) c) (place-below (o .service .0)) (open-facts s i k opened .five) ∙ rw (a, b)
+        ap (λ (x : Sizes). getD (x .messages) place noReassembly) (settled-sizes (withMessageAt old place (announced (idRead o) (length m) c)) (o .version))
+        ∙ set-message old place (announced (idRead o) (length m) c) (place-below (o .service .0)) (open-facts s i k opened .five) ∙ rw (a, b)
 
     first-version : first-row .version ≡ o .version
     unfolding settledRow
     first-version =
-        let x : Row = withMessageAt old place (announced (o .message) (length m) c) in
-        let same : x .version ≡ old .version = ap (λ (y : Row). y .version) (message-at-is old place (announced (o .message) (length m) c) (place-below (o .service .0))) in
+        let x : Row = withMessageAt old place (announced (idRead o) (length m) c) in
+        let same : x .version ≡ old .version = ap (λ (y : Row). y .version) (message-at-is old place (announced (idRead o) (length m) c) (place-below (o .service .0))) in
         either (λ (y : Row). y .version ≡ o .version) (eqb (x .version) 0) _ x (λ _. refl) (λ e.
         same ∙ sym (fits-settled (s .link .version .major) old (o .version) (claimed .0 .version)
         (ap (λ (v : ℕ). eqb v 0) (sym same) ∙ e)))
 
     first-shown : pages (stateAfter s (call q)) i ≡ some (withNote (pageOf s at old) place (so-far 0))
     first-shown =
-        told-at s q i k (first place (o .message .0) (length m) c) first-seen
-        ∙ ap (λ (x : After). pageAfterIf (pages s i) (first place (o .message .0) (length m) c) (x .answer)) is-claim
-        ∙ ap (λ (x : Option Page). pageAfterIf x (first place (o .message .0) (length m) c) (answer.Accepted (extentOf first-header .consumed))) (page-of s i opened)
+        told-at s q i k (first place (idRead o .0) (length m) c) first-seen
+        ∙ ap (λ (x : After). pageAfterIf (pages s i) (first place (idRead o .0) (length m) c) (x .answer)) is-claim
+        ∙ ap (λ (x : Option Page). pageAfterIf x (first place (idRead o .0) (length m) c) (answer.Accepted (extentOf first-header .consumed))) (page-of s i opened)
 
     begins : Halfway (stateAfter s (call q)) 0
     begins =
@@ -356,25 +373,73 @@ module _ (o : Outgoing) (m : List ℕ) (cut : Cut o m) where
           mtu = λ e. rw (settings s (call q) .1) (mtu e);
         }
 
-  -- ---- the calls between
+  -- ---- the calls after the first
 
-  -- the frames before the last are at most that many
-  upto : (k : ℕ) (cs : List Command) → Between o m c k cs → k ≤ c
-  upto k [] e = omega arith
-  upto k (call q ∷ cs) e = ⊎-elim (λ x. upto k cs (x .1)) (λ x. omega (arith, upto (suc k) cs (x .1))) e
+  -- past the last frame no call is left
+  over : (k : ℕ) (cs : List Command) → lastPlace o m < k → InOrder o m k cs → cs ≡ []
+  over k [] h e = refl
+  over k (call q ∷ cs) h e = ⊎-elim (λ x. absurd (omega (arith, x .1))) (λ x. absurd (omega (arith, told-by o m (cut .message) q k (x .0 .frame) .place))) e
 
-  walks : (s : State) (j : ℕ) (cs : List Command) → Halfway s j → Between o m c (suc j) cs → (e : ℕ) × ((suc e ≡ c) × Halfway (stateAfterAll s cs) e)
-  unfolding stateAfterAll
-  walks s j [] w e = (j, (e, w))
-  walks s j (call q ∷ cs) w e =
+  walks : (s : State) (d : Command) (j : ℕ) (cs : List Command) → Halfway (stateAfter s d) j → j < c → InOrder o m (suc j) cs → Arrives o m (lastEvent s d cs)
+  walks s d j [] w below e = absurd (omega (arith, last-is o m cut))
+  walks s d j (call q ∷ cs) w below e =
+      let t : State = stateAfter s d in
       ⊎-elim
-      (λ x. walks (stateAfter s (call q)) j cs (passes s j (call q) w (x .0)) (x .1))
-      (λ x. let inner : suc j < c = upto (suc (suc j)) cs (x .1) in
-      walks (stateAfter s (call q)) (suc j) cs (feeds s j w (omega arith) q (x .0) inner) (x .1)) e
+      (λ x. walks t (call q) j cs (passes t j (call q) w (x .0)) below (x .2))
+      (λ x. split (eqb (suc j) c)
+      (λ y.
+      let last : suc j ≡ c = eqb-true (suc j) c y in
+      let none-left : cs ≡ [] = over (suc (suc j)) cs (omega (arith, last-is o m cut)) (x .1) in
+      subst (λ (ds : List Command). Arrives o m (lastEvent t (call q) ds)) (sym none-left) (whole t j w below q (x .0) last (x .0 .whole (last ∙ sym (last-is o m cut)))))
+      (λ y.
+      let inner : suc j < c = omega (arith, eqb-false (suc j) c y) in
+      walks t (call q) (suc j) cs (feeds t j w below q (x .0) inner) inner (x .1))) e
+
+-- ---- a message of one chunk: its one frame, accepted, delivers it
+
+module _ (o : Outgoing) (m : List ℕ) (small : o .message .0 < 2 ^ 32) (one : fitsOne o m ≡ true) (s : State) (k : Sane s) (opened : isOpen s (o .session .0) ≡ true)
+    (q : Request) (f : Fronts o m 0 q) (accepted : T (isAccepted (stepped s q .answer))) where
+  abbrev single-header : Header
+  single-header = heardFor o 1 0 (length m)
+
+  abbrev single-place : ℕ
+  single-place = placeOf (o .service .0)
+
+  single-reads : readOf (q .input) ≡ reading.Frame single-header (extentOf single-header)
+  single-reads = front-reads o m small q 0 f 1 0 m (at-single o 0 m one)
+
+  single-seen : seenOf (q .input) ≡ within (o .session .0) (single single-place m)
+  unfolding askOf
+  single-seen =
+      seen-is s q k single-header (extentOf single-header) single-reads opened
+      ∙ ap (λ (x : List ℕ). within (o .session .0) (single single-place x)) (front-payload o m small q 0 f 1 0 m (at-single o 0 m one))
+
+  last-single : lastPlace o m ≡ 0
+  unfolding lastPlace
+  last-single = rw one
+
+  handed : Arrives o m (eventOf s (call q))
+  handed =
+      let due : dueOf (pages s) (call q) ≡ some (message-due o m)
+      = ap (dueIn (pages s)) single-seen ∙ ap (λ (x : Option Page). dueOn x (single single-place m)) (page-of s (o .session .0) opened)
+      ∙ ap (λ (x : ℕ). some (record { service = x; bytes = m })) (service-place (o .service) (told-by o m small q 0 f .accepted .ready .service)) in
+      let size : frontSize (call q) ≡ length (bytesOf (frameAt o m (lastPlace o m)))
+      = ap consumedBy single-reads ∙ front-size o m small q 0 f 1 0 m (at-single o 0 m one) ∙ ap (λ (j : ℕ). length (bytesOf (frameAt o m j))) (sym last-single) in
+      arrived o m s q k accepted due size
+
+  -- no call follows it
+  alone : (cs : List Command) → InOrder o m 1 cs → cs ≡ []
+  alone [] e = refl
+  alone (call p ∷ cs) e =
+      let last = last-single in
+      ⊎-elim (λ x. absurd (omega (arith, x .1))) (λ x. absurd (omega (arith, told-by o m small p 1 (x .0 .frame) .place))) e
 
 -- the statement
 pub arrives-whole : ArrivesWhole
-arrives-whole s k o m cut is-open mtu q f accepted between b last x room =
-    let w = walks o m cut (stateAfter s (call q)) 0 between (begins o m cut s k is-open mtu q f accepted) b in
-    let e : suc (w .0) ≡ countOf o m = w .1 .0 in
-    whole o m cut (stateAfterAll (stateAfter s (call q)) between) (w .0) (w .1 .1) (omega arith) last (subst (λ (n : ℕ). Brings o m n last) (sym e) x) e room
+arrives-whole s k o m small opened mtu q f accepted rest order =
+    split (fitsOne o m)
+    (λ one. subst (λ (cs : List Command). Arrives o m (lastEvent s (call q) cs)) (sym (alone o m small one s k opened q f accepted rest order)) (handed o m small one s k opened q f accepted))
+    (λ several.
+    let cut : Cut o m = record { accepted = told-by o m small q 0 f .accepted; several = several; message = small } in
+    let some-frames : 1 ≤ countOf o m = totals-range (length m) (countOf o m) (totals o m (cut .accepted) several) .2 in
+    walks o m cut s (call q) 0 rest (begins o m cut s k opened mtu q f accepted) some-frames order)

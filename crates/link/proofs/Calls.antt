@@ -126,7 +126,7 @@ pub named : (q : Request) (i : ℕ) (h : Header) (e : Extent) → readOf (q .inp
 named q i h e f t = sym (session-fourth (q .input) h e f ∙ eqb-true (getD (q .input) 3 0) i (and-both (ltb 3 (length (q .input))) _ (is-true _ t) .1))
 
 -- tests that two and three choices share
-two-unless : {A B : Type 0} (P : A → B → Type 0) (b : Bool) (x y : A) (u v : B) → (b ≡ false → P x u) → (b ≡ true → P y v) → P (unless b x y) (unless b u v)
+pub two-unless : {A B : Type 0} (P : A → B → Type 0) (b : Bool) (x y : A) (u v : B) → (b ≡ false → P x u) → (b ≡ true → P y v) → P (unless b x y) (unless b u v)
 two-unless P true x y u v f g = g refl
 two-unless P false x y u v f g = f refl
 

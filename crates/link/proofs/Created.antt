@@ -1,13 +1,15 @@
 -- A new link keeps the state rules, and its book is empty: by computation, its rows being free and its map too.
 -- Assumes nothing.
 use Prim.Native.Nat.{ℕ, zero, suc}
-use mathlib.Core.Path.{_≡_, refl, fun-ext}
+use mathlib.Core.Path.{_≡_, refl, ap, fun-ext}
 use mathlib.Core.Bool.{true, false}
 use mathlib.Core.List.{List}
 use native.Mathlib.Omega.{arith}
-use lib.ListN.{length}
+use lib.ListN.{length, getD-replicate}
 use borrow.Author.Tests.{ne-eqb}
 use Rattle.blocks.specs.Map.{freeMap, heldBy, heldByAll}
+use Rattle.session.specs.declared.Row.{Row}
+use Rattle.session.specs.Rows.{noRow, freeRow}
 use Rattle.session.specs.Decide.{needOf, heldIn, messageBlocks}
 use Rattle.payload.specs.declared.version.Version.{Version}
 use Rattle.link.specs.State.{indexOf, ownerOf, sharesIn, distinctIds, blocksFit, freeFits, rowFits, rulesHold, settingsFit, createdLink}
@@ -24,6 +26,7 @@ unfolding freeMap
 created-sane v mtu pool f l = record {
   rows = refl;
   five = (refl, (refl, (refl, (refl, (refl, (refl, (refl, (refl, tt))))))));
+  ids = λ k h. omega (arith, ap (λ (r : Row). r .id .0) (getD-replicate 8 k freeRow noRow h));
   owners = refl;
   pool = l;
   settings = f;
@@ -31,7 +34,7 @@ created-sane v mtu pool f l = record {
 }
 
 -- no id is in a row
-created-closed : (v : Version) (mtu : ℕ) (pool : List ℕ) (i : ℕ) → isOpen (created v mtu pool) i ≡ false
+pub created-closed : (v : Version) (mtu : ℕ) (pool : List ℕ) (i : ℕ) → isOpen (created v mtu pool) i ≡ false
 unfolding isOpen indexOf
 created-closed v mtu pool zero = refl
 created-closed v mtu pool (suc i) = rw (ne-eqb (suc i) 0 (λ z. omega arith), ne-eqb 0 (suc i) (λ z. omega arith))

@@ -3,7 +3,7 @@
 -- Assumes nothing.
 use Prim.Native.Nat.{ℕ, _+_, _-_, _≤_, max}
 use mathlib.Core.Path.{_≡_, refl}
-use mathlib.Core.Logic.{_⊎_, inl, inr}
+use mathlib.Core.Logic.{_⊎_}
 use mathlib.Core.Bool.{Bool, true, false, _&&_, _||_, not}
 use mathlib.Core.List.{List}
 use native.Mathlib.Omega.{arith}
@@ -22,7 +22,9 @@ use Rattle.session.specs.declared.Act.{Act}
 use Rattle.session.specs.declared.Act.the-variants.{Refuse, Drop, Accept, Beat, Start, NoStart, Stop, Close, NoEnd, Claim, Append, Deliver, Single}
 use Rattle.session.specs.Rows.{noRow, messageAt}
 use Rattle.session.specs.Rules.{versionFits, mtuFits, serviceFits, commandFits, barredBy}
-use Rattle.session.specs.Decide.{placeOf, needOf, heldOf, shareOf, firstOf, dueNumber, sized, nextFor, singleOf, startable, startingOf, endable, hashOf, endingOf, controlOf, contentOf}
+use Rattle.session.specs.Decide.{placeOf, needOf, heldOf, shareOf, firstOf, sized, singleOf, startable, startingOf, endable, hashOf, endingOf, controlOf, contentOf}
+use Rattle.session.proofs.Laws.{Continues, Next, next-is}
+use Rattle.session.proofs.Laws as laws
 use Rattle.link.specs.declared.Link.{Link}
 use Rattle.link.specs.State.{sharesIn}
 use Rattle.link.specs.Call.{saidOf, decisionOf}
@@ -73,11 +75,6 @@ place-other service e =
 
 -- ---- the decisions
 
--- a consecutive frame of an open message
-pub record Continues (h : Header) (m : Reassembly) : Type 0 where
-  pub live : m .live ≡ true
-  pub same : h .message .0 ≡ m .id .0
-
 module _ (l : Link) (i : ℕ) (h : Header) (payload : List ℕ) where
   abbrev r : Row
   r = getD (l .rows) i noRow
@@ -105,7 +102,7 @@ module _ (l : Link) (i : ℕ) (h : Header) (payload : List ℕ) where
     closes : place ≡ 1 → Decided (end place) Close
     ends-not : {named : Bool} → Decided (end place) (NoEnd named)
     -- a Single Frame, a First Frame
-    hands-over : In → Decided (single payload) Single
+    hands-over : In → Decided (single place payload) Single
     claims : {total count : ℕ} → In → (h .kind ≡ 0 → ⊥) → totalsFit total count ≡ true → m .live ≡ false → heldOf r + needOf total ≤ r .cap
         → (sharesIn (l .rows) - shareOf r) + max (heldOf r + needOf total) (r .guarantee) ≤ 256 → Decided (first place (h .message .0) total count) (Claim total count)
     -- a consecutive frame: 24 and 25, one that is not the last, the last
@@ -113,9 +110,9 @@ module _ (l : Link) (i : ℕ) (h : Header) (payload : List ℕ) where
     appends : Continues h m → sized m (h .size) ≡ true → (m .frames ≡ 1 → ⊥) → Decided (next place (h .message .0) payload) Append
     delivers : Continues h m → sized m (h .size) ≡ true → m .frames ≡ 1 → Decided (next place (h .message .0) payload) Deliver
 
-  single-decided : (room : ℕ) → In → Decided (single payload) (singleOf room h)
+  single-decided : (room : ℕ) → In → Decided (single place payload) (singleOf room h)
   unfolding singleOf
-  single-decided room q = unless-elim (Decided (single payload)) (leb (h .size) room) _ _ (λ _. refuses (omega arith)) (λ _. hands-over q)
+  single-decided room q = unless-elim (Decided (single place payload)) (leb (h .size) room) _ _ (λ _. refuses (omega arith)) (λ _. hands-over q)
 
   first-decided : (total count : ℕ) → In → (h .kind ≡ 0 → ⊥) → Decided (first place (h .message .0) total count) (firstOf r (sharesIn (l .rows) - shareOf r) h total count)
   unfolding firstOf
@@ -128,17 +125,11 @@ module _ (l : Link) (i : ℕ) (h : Header) (payload : List ℕ) where
       unless-elim P (leb (others + max (heldOf r + needOf total) (r .guarantee)) 256) _ _ (λ _. refuses (omega arith)) λ t₄.
       claims q n t₁ (not-true (m .live) t₂) (leb-true (heldOf r + needOf total) (r .cap) t₃) (leb-true (others + max (heldOf r + needOf total) (r .guarantee)) 256 t₄)
 
-  next-decided : (room : ℕ) → Decided (next place (h .message .0) payload) (nextFor m room h)
-  unfolding nextFor
-  next-decided room =
-      let P : Act → Type 0 = Decided (next place (h .message .0) payload) in
-      unless-elim P (m .live) _ _ (λ _. refuses (omega arith)) λ live.
-      unless-elim P (eqb (h .message .0) (m .id .0)) _ _ (λ _. refuses (omega arith)) λ e.
-      let c : Continues h m = record { live = live; same = eqb-true (h .message .0) (m .id .0) e } in
-      unless-elim P (eqb (h .info) (dueNumber m)) _ _ (λ _. drops (inl refl) c) λ _.
-      unless-elim P (sized m (h .size)) _ _ (λ _. drops (inr refl) c) λ sizes.
-      unless-elim P (eqb (m .frames) 1) _ _ (λ more. appends c sizes (eqb-false (m .frames) 1 more)) λ one.
-      unless-elim P (leb (m .total) room) _ _ (λ _. refuses (omega arith)) (λ _. delivers c sizes (eqb-true (m .frames) 1 one))
+  next-decided : {act : Act} → Next m h act → Decided (next place (h .message .0) payload) act
+  next-decided (laws.refuses b) = refuses b
+  next-decided (laws.drops d c) = drops d c
+  next-decided (laws.appends c sizes more) = appends c sizes more
+  next-decided (laws.delivers c sizes one) = delivers c sizes one
 
   end-decided : (said : Said) → Decided (end place) (endingOf r h said)
   unfolding endingOf
@@ -169,4 +160,4 @@ module _ (l : Link) (i : ℕ) (h : Header) (payload : List ℕ) where
       let q : In = by .1 (eqb-true b 0 t) in
       both-by Decided (eqb (h .kind) 0) _ _ _ _ (λ _. control-decided (saidOf r payload)) λ n.
       both-by Decided (eqb (h .kind) 1) _ _ _ _ (λ _. single-decided room q) λ _.
-      both-by Decided (eqb (h .kind) 2) _ _ _ _ (λ _. first-decided (valueBe (part payload 0 4)) (valueBe (part payload 4 4)) q (eqb-false (h .kind) 0 n)) (λ _. next-decided room)
+      both-by Decided (eqb (h .kind) 2) _ _ _ _ (λ _. first-decided (valueBe (part payload 0 4)) (valueBe (part payload 4 4)) q (eqb-false (h .kind) 0 n)) (λ _. next-decided (next-is m h room))

@@ -17,6 +17,8 @@ use Rattle.frame.specs.declared.Header.{Header}
 use Rattle.frame.specs.declared.Extent.{Extent}
 use Rattle.frame.specs.declared.Reading.the-variants as reading
 use Rattle.frame.specs.Read.{readOf}
+use Rattle.frame.proofs.Laws.{fault-none}
+use Rattle.frame.proofs.Answers.{frame-sound}
 use Rattle.frame.proofs.ThereAndBack.{payload-length}
 use Rattle.blocks.specs.Pool.{blockBytes, appended}
 use Rattle.blocks.proofs.Contents.{append-fits, bytes-length}
@@ -25,15 +27,15 @@ use Rattle.session.specs.declared.Row.{Row}
 use Rattle.session.specs.declared.Act.{Act}
 use Rattle.session.specs.Rows.{noRow, noReassembly, messageAt}
 use Rattle.session.specs.Decide.{placeOf, needOf, messageBlocks, sized}
-use Rattle.link.specs.State.{indexOf, ownerOf}
+use Rattle.link.specs.State.{indexOf, ownerOf, serviceAt}
 use Rattle.link.specs.Call.{After, applied}
-use Rattle.link.specs.Book.{Request, Command, call, Ask, Seen, askOf, isAccepted, noNote, dueFor, dueOn, dueIn, dueOf}
-use Rattle.link.specs.Claim.{State, eventOf, isOpen, DeliversDue}
+use Rattle.link.specs.Book.{Request, Command, call, Ask, Seen, askOf, isAccepted, noNote, Due, dueAt, dueFor, dueOn, dueIn, dueOf}
+use Rattle.link.specs.Claim.{State, eventOf, isOpen, consumedBy, DeliversDue}
 use Rattle.link.specs.Pages.{noteOf, notesFrom, pageOf, pages, Sane}
 use Rattle.link.proofs.Calls.{payloadIn, rowCall, Called, short, refused, nacked, acked, in-row, called}
 use Rattle.link.proofs.Decisions.{Decided, refuses, accepts, beats, starts, starts-not, stops, closes, ends-not, hands-over, claims, drops, appends, delivers, decided}
 use Rattle.link.proofs.Shown.{is-open, page-of}
-use Rattle.link.proofs.RowFacts.{place-below, OpenFacts, open-facts}
+use Rattle.link.proofs.RowFacts.{place-below, service-place, OpenFacts, open-facts}
 use Rattle.link.proofs.Each.{or-then}
 
 -- the note at a place is read off the message there
@@ -47,7 +49,7 @@ pub note-at : (s : State) (n : ℕ) (r : Row) (place : ℕ) → place < length (
 note-at s n r place h = let z : 0 + place ≡ place = omega arith in rw z at (notes-at s n 0 (r .messages) place h)
 
 -- what a call owes for what is due
-abbrev pub Gives : Request → Option (List ℕ) → After → Type 0
+abbrev pub Gives : Request → Option Due → After → Type 0
 Gives q due w = T (isAccepted (w .answer)) → DeliversDue due (record { command = call q; answer = w .answer; out = w .out })
 
 last-size : (m : Reassembly) (size : ℕ) → sized m size ≡ true → m .frames ≡ 1 → m .missing ≡ size
@@ -59,12 +61,12 @@ last-size m size e f =
 
 -- the note of an open message under the frame's id: what its frame completes
 module _ (s : State) (n place : ℕ) (m : Reassembly) (id : ℕ) (payload : List ℕ) (live : m .live ≡ true) (mine : id ≡ m .id .0) where
-  due-none : (m .frames ≡ 1 → ⊥) → 1 ≤ m .frames → m .frames ≤ m .count → dueFor (noteOf s n place m) id payload ≡ none
+  due-none : (m .frames ≡ 1 → ⊥) → 1 ≤ m .frames → m .frames ≤ m .count → dueFor place (noteOf s n place m) id payload ≡ none
   unfolding dueFor noteOf
   due-none f a b = rw (live, eq-eqb (m .id .0) id (sym mine), ne-eqb (suc (m .count - m .frames)) (m .count) (λ z. f (omega arith)))
 
   due-whole : m .frames ≡ 1 → m .frames ≤ m .count
-      → dueFor (noteOf s n place m) id payload ≡ some (take (m .total - m .missing) (blockBytes (ownerOf n place) (s .link .owners) (s .pool)) ++ payload)
+      → dueFor place (noteOf s n place m) id payload ≡ some (dueAt place (take (m .total - m .missing) (blockBytes (ownerOf n place) (s .link .owners) (s .pool)) ++ payload))
   unfolding dueFor noteOf
   due-whole f b = rw (live, eq-eqb (m .id .0) id (sym mine), eq-eqb (suc (m .count - m .frames)) (m .count) (omega arith))
 
@@ -113,6 +115,13 @@ module _ (s : State) (q : Request) (k : Sane s) (h : Header) (e : Extent) (f : r
   note-here : getD (notesFrom s n 0 (getD (s .link .rows) n noRow .messages)) place noNote ≡ noteOf s n place m
   note-here = note-at s n (getD (s .link .rows) n noRow) place (omega (arith, facts .five, place-below (h .service .0)))
 
+  -- the frame's bytes, and the service that its place stands for
+  size : e .consumed ≡ consumedBy (readOf (q .input))
+  size = sym (ap consumedBy f)
+
+  service : h .service .0 ≡ serviceAt place
+  service = sym (service-place (h .service) (fault-none h (frame-sound (q .input) h e f) .service))
+
   -- every decision gives what is due
   gives : {ask : Ask} {act : Act} → Decided (s .link) n h (payloadIn q e) ask act → Owes ask act
   gives (refuses b) = λ z. absurd z
@@ -123,7 +132,7 @@ module _ (s : State) (q : Request) (k : Sane s) (h : Header) (e : Extent) (f : r
   gives (stops d) = λ _. refl
   gives (closes d) = λ _. refl
   gives ends-not = λ _. refl
-  gives (hands-over p) = λ _. (refl, refl)
+  gives (hands-over p) = λ _. record { frame = size; on = service; whole = refl; bytes = refl }
   gives (claims p a b c d e) = λ _. refl
   gives (drops d o) = λ z. absurd z
   gives (appends c sizes more) =
@@ -135,10 +144,12 @@ module _ (s : State) (q : Request) (k : Sane s) (h : Header) (e : Extent) (f : r
       let held = facts .room place (place-below (h .service .0)) in
       let last : m .missing ≡ length payload = last-size m (h .size) sizes one ∙ sym (payload-length (q .input) h e f) in
       let all : m .total - (m .missing - length payload) ≡ m .total = omega arith in
-      λ _. rw (note-here, due-whole s n place m (h .message .0) payload (c .live) (c .same) one (o .frames-most)) (
-        sym (whole s k n place m payload (c .live) (o .missing-most) (omega arith) held last),
-        ap (λ (x : List ℕ). laid x (q .out)) (rw all at (joined s k n place m payload (c .live) (o .missing-most) (omega arith) held)),
-      )
+      λ _. rw (note-here, due-whole s n place m (h .message .0) payload (c .live) (c .same) one (o .frames-most)) (record {
+        frame = size;
+        on = service;
+        whole = sym (whole s k n place m payload (c .live) (o .missing-most) (omega arith) held last);
+        bytes = ap (λ (x : List ℕ). laid x (q .out)) (rw all at (joined s k n place m payload (c .live) (o .missing-most) (omega arith) held));
+      })
 
   pub row-gives : Gives q (dueOn (pages s (h .session .0)) (askOf h (payloadIn q e))) (rowCall s q h e)
   row-gives = rw (page-of s (h .session .0) opened) (gives (decided (s .link) n h (payloadIn q e) (length (q .out))))

@@ -102,7 +102,7 @@ row-rules major i owners r e n =
     let c = and-both (unsettledFits r) _ (b .1) in
     record { blocks = p .0; room = a .0; version = b .0; unsettled = c .0; messages = c .1 }
 
--- "each holds exactly the blocks that its messages in the book need, counted in the block map, at most its cap"
+-- "each open session holds exactly as many blocks as its messages in the book need, never more than its cap"; counted in the block map
 pub holds : (s : State) (i : ℕ) (p : Page) → Sane s → pages s i ≡ some p → (blocksOf s i ≡ needsOf p) × (needsOf p ≤ p .cap)
 unfolding blocksOf roomFits
 holds s i p k e =

@@ -8,6 +8,7 @@ pub mod RowFacts
 pub mod RowRules
 pub mod TableRules
 pub mod OpeningRules
+pub mod AllBlocks
 pub mod AllSane
 pub mod Opens
 pub mod Others
@@ -19,10 +20,15 @@ pub mod Settings
 pub mod Answers
 pub mod Holdings
 pub mod Created
+pub mod Barred
 pub mod CutFrames
 pub mod Arrival
 pub mod Demand
+pub mod Values
 pub mod Refusals
 pub mod Replies
+pub mod Guards
+pub mod Wishes
+pub mod ReadBack
 pub mod Figures
 pub mod ActualCalls

@@ -9,9 +9,9 @@ use lib.Dec.{T}
 use lib.Ieee.Bits.{is-true, is-false}
 use Rattle.numbers.specs.Bytes.{pick}
 use Rattle.numbers.proofs.Choices.{either, onTest}
-use Rattle.blocks.specs.Map.{heldByAll, freeIn}
+use Rattle.blocks.specs.Map.{freeIn}
 use Rattle.session.specs.declared.Row.{Row}
-use Rattle.link.specs.Book.{Command, call, Event, opening, isAccepted, isAck, Page, Book, emptyBook, there, lowestNotIn, needsOf, bookAfter, bookOf, dueOf, names, shuts, untilClosed, naming, ownOf, ModestIn, Modest}
+use Rattle.link.specs.Book.{Command, call, Event, opening, isAccepted, isAck, Page, Book, emptyBook, there, lowestNotIn, needsOf, needsInAll, bookAfter, bookOf, dueOf, names, shuts, untilClosed, naming, ownOf, ModestIn, Modest}
 use Rattle.link.specs.Claim.{State, stateAfter, eventOf, run, stateAfterAll, commandOf, isOpen, blocksOf, DeliversDue, AllDelivered, seenBy, Demand}
 use Rattle.link.specs.Pages.{rowOf, pages, Sane}
 
@@ -50,7 +50,7 @@ pub record Laws : Type 0 where
   -- a state within the rules shows its sessions and their blocks
   pub shown : (s : State) (i : ℕ) → Sane s → isOpen s i ≡ there (pages s i)
   pub holds : (s : State) (i : ℕ) (p : Page) → Sane s → pages s i ≡ some p → (blocksOf s i ≡ needsOf p) × (needsOf p ≤ p .cap)
-  pub all-blocks : (s : State) → Sane s → heldByAll 1 40 (s .link .owners) + freeIn (s .link .owners) ≡ 256
+  pub all-blocks : (s : State) → Sane s → needsInAll (pages s) 255 1 + freeIn (s .link .owners) ≡ 256
   -- what is due is delivered
   pub hands : (s : State) (c : Command) → Sane s → T (isAccepted (eventOf s c .answer)) → DeliversDue (dueOf (pages s) c) (eventOf s c)
 
@@ -182,7 +182,7 @@ module _ (L : Laws) where
         record {
           sessions = λ i. L .shown (stateAfterAll s₀ cs) i k ∙ ap (λ (b : Book). there (b i)) (sym (shows cs));
           room = λ i p q. L .holds (stateAfterAll s₀ cs) i p k (ap (λ (b : Book). b i) (sym (shows cs)) ∙ q);
-          blocks = L .all-blocks (stateAfterAll s₀ cs) k;
+          blocks = subst (λ (b : Book). needsInAll b 255 1 + freeIn (stateAfterAll s₀ cs .link .owners) ≡ 256) (sym (shows cs)) (L .all-blocks (stateAfterAll s₀ cs) k);
           delivered = subst (λ (b : Book). AllDelivered b (run s₀ cs)) e₀ (all-delivered s₀ cs k₀);
           isolated = λ before rest o q v a m. alone before rest o v a m;
         }

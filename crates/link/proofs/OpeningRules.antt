@@ -53,15 +53,20 @@ opened-facts major i g c v hash a b e = record {
   five = refl;
 }
 
--- a free row has no blocks
-free-blocks : (major : ℕ) (owners : List ℕ) (k : ℕ) (r : Row) → r .id .0 ≡ 0 → rowFits major owners k r ≡ true → (q : ℕ) → q < length (r .messages) → heldBy (ownerOf k q) owners ≡ 0
+-- a free row has no open message
+pub free-idle : (major : ℕ) (owners : List ℕ) (k : ℕ) (r : Row) → r .id .0 ≡ 0 → rowFits major owners k r ≡ true → all (λ (m : Reassembly). not (m .live)) (r .messages) ≡ true
 unfolding rowFits freeFits
-free-blocks major owners k r z e q h =
+free-idle major owners k r z e =
     let p = and-both (blocksFit owners k r) _ e in
     let t : eqb (r .guarantee) 0 && (eqb (r .cap) 0 && all (λ (m : Reassembly). not (m .live)) (r .messages)) ≡ true = rw (eq-eqb (r .id .0) 0 z) at (p .1) in
-    let b = and-both (eqb (r .cap) 0) _ (and-both (eqb (r .guarantee) 0) _ t .1) in
-    let n : messageAt r q .live ≡ false = not-true (messageAt r q .live) (all-at (λ (m : Reassembly). not (m .live)) (r .messages) q noReassembly (b .1) h) in
-    blocks-say owners k r (p .0) q h ∙ held-idle (messageAt r q) n
+    and-both (eqb (r .cap) 0) _ (and-both (eqb (r .guarantee) 0) _ t .1) .1
+
+-- and no blocks
+free-blocks : (major : ℕ) (owners : List ℕ) (k : ℕ) (r : Row) → r .id .0 ≡ 0 → rowFits major owners k r ≡ true → (q : ℕ) → q < length (r .messages) → heldBy (ownerOf k q) owners ≡ 0
+unfolding rowFits
+free-blocks major owners k r z e q h =
+    let n : messageAt r q .live ≡ false = not-true (messageAt r q .live) (all-at (λ (m : Reassembly). not (m .live)) (r .messages) q noReassembly (free-idle major owners k r z e) h) in
+    blocks-say owners k r (and-both (blocksFit owners k r) _ e .0) q h ∙ held-idle (messageAt r q) n
 
 -- the state rules hold after an opening that is admitted
 pub opened-rules : (l : Link) (g : Grant) (v : ℕ) → length (l .rows) ≡ 8 → FiveEach (l .rows) → rulesHold l ≡ true → grantFits g ≡ true → admits (l .rows) g ≡ true

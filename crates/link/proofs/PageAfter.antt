@@ -33,7 +33,8 @@ use Rattle.link.specs.Pages.{rowOf, noteOf, notesFrom, pageOf, pageIf, p
 use Rattle.link.proofs.Shown.{rules-say, page-of, closed-page, missing-closed}
 use Rattle.link.proofs.Table.{index-set-same, index-set-gone, owner-some}
 use Rattle.link.proofs.RowFacts.{place-below, OpenFacts, open-facts}
-use Rattle.link.proofs.Decisions.{Continues, Decided, refuses, accepts, beats, starts, starts-not, stops, closes, ends-not, hands-over, claims, drops, appends, delivers}
+use Rattle.session.proofs.Laws.{Continues}
+use Rattle.link.proofs.Decisions.{Decided, refuses, accepts, beats, starts, starts-not, stops, closes, ends-not, hands-over, claims, drops, appends, delivers}
 use Rattle.link.proofs.Deliveries.{note-at, joined}
 use Rattle.link.proofs.Others.{Sizes, sizesWith, sizes, set-sizes, settled-sizes, service-sizes, notes-same}
 
@@ -81,7 +82,7 @@ announced-note t n place id total count =
 
 -- refusals but 24 and 25 are not noted
 pub refused-page : (p : Page) (ask : Ask) (c : ℕ) → c ≤ 23 → pageAfter p ask (answer.Refused c) ≡ some p
-refused-page p (single x) c b = refl
+refused-page p (single place x) c b = refl
 refused-page p (first place id total count) c b = refl
 refused-page p (next place id x) c b = rw (ne-eqb c 24 (λ e. omega arith), ne-eqb c 25 (λ e. omega arith))
 refused-page p (end place) c b = refl

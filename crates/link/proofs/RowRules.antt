@@ -68,7 +68,7 @@ pub record RowKept (major others place : ℕ) (r after : Row) (freed claimed : �
   pub here : messageBlocks (messageAt after place) + freed ≡ messageBlocks (messageAt r place) + claimed
 
 -- a row with another version and message counter and other streams
-abbrev remade : Row → ℕ → ℕ → Running → Running → Row
+abbrev remade : Row → ℕ → MessageId → Running → Running → Row
 remade r v n a b = record { id = r .id; guarantee = r .guarantee; cap = r .cap; version = v; next = n; hash = r .hash; audio = a; video = b; messages = r .messages }
 
 abbrev versioned : Row → ℕ → Row
@@ -83,7 +83,7 @@ unfolding withMessageAt
 message-at-is r p m h = rw (lt-ltb p 5 h)
 
 -- what runs under two streams goes on under others, if these run where they did
-runs-with : (r : Row) (v n t : ℕ) (a b : Running) → (t ≡ 0x0A → r .audio .on ≡ true → a .on ≡ true) → (t ≡ 0x0B → r .video .on ≡ true → b .on ≡ true)
+runs-with : (r : Row) (v : ℕ) (n : MessageId) (t : ℕ) (a b : Running) → (t ≡ 0x0A → r .audio .on ≡ true → a .on ≡ true) → (t ≡ 0x0B → r .video .on ≡ true → b .on ≡ true)
     → isRunning r v t ≡ true → isRunning (remade r v n a b) v t ≡ true
 unfolding isRunning
 runs-with r v n t a b f g e =
@@ -106,7 +106,7 @@ module _ (major others p : ℕ) where
   }
 
   -- no message changed, and each open one's service still runs
-  kept-remade : (r : Row) (v n : ℕ) (a b : Running) → RowFacts major r → versionAllowed major v ≡ true → (v ≡ 0 → r .version ≡ 0)
+  kept-remade : (r : Row) (v : ℕ) (n : MessageId) (a b : Running) → RowFacts major r → versionAllowed major v ≡ true → (v ≡ 0 → r .version ≡ 0)
       → ((k : ℕ) → k < 5 → messageAt r k .live ≡ true → runsAt r k ≡ true → runsAt (remade r v n a b) k ≡ true) → Kept r (remade r v n a b) 0 0
   kept-remade r v n a b f w z g = record {
     facts = record {

@@ -46,7 +46,7 @@ use Rattle.link.proofs.Lists.{Alike}
 -- a page stays unless an End's ACK closes the session
 stays-there : (o : Option Page) (ask : Ask) (a : Answer) (i : ℕ) → there o ≡ true → isAck a && endsRpc (within i ask) ≡ false → there (pageAfterIf o ask a) ≡ true
 stays-there none ask a i t e = absurd (true≢false (sym t))
-stays-there (some p) (single x) a i t e = refl
+stays-there (some p) (single place x) a i t e = refl
 stays-there (some p) (first place id total count) a i t e = refl
 stays-there (some p) (next place id x) a i t e = refl
 stays-there (some p) (end place) a i t e =

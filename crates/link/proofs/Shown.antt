@@ -17,7 +17,7 @@ use Rattle.link.specs.declared.Link.{Link}
 use Rattle.link.specs.State.{indexOf, distinctIds, allFrom, rowFits, sharesIn, rulesHold}
 use Rattle.link.specs.Book.{there}
 use Rattle.link.specs.Claim.{State, isOpen}
-use Rattle.link.specs.Pages.{rowOf, pageOf, pageIf, pages, Sane}
+use Rattle.link.specs.Pages.{rowOf, pageOf, pageIf, pages}
 
 -- the state rules, one by one
 pub record Rules (l : Link) : Type 0 where
@@ -42,10 +42,6 @@ rules-say l e =
 pub say-rules : (l : Link) → Rules l → rulesHold l ≡ true
 unfolding rulesHold
 say-rules l g = rw (g .ids, g .rows, le-leb (sharesIn (l .rows)) 256 (g .shares), eq-eqb (heldByAll 1 40 (l .owners) + freeIn (l .owners)) 256 (g .blocks))
-
--- "held and free blocks make 256"
-pub all-blocks : (s : State) → Sane s → heldByAll 1 40 (s .link .owners) + freeIn (s .link .owners) ≡ 256
-all-blocks s k = rules-say (s .link) (k .rules) .blocks
 
 -- the open sessions are those that have a page
 pub shown : (s : State) (i : ℕ) → isOpen s i ≡ there (pages s i)

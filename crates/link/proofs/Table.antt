@@ -79,14 +79,14 @@ missing-index i rs f =
     absurd (f (indexOf i rs) below (index-row i rs below))
 
 -- distinct ids: no later row has the first one's
-distinct-head : (r : Row) (rs : List Row) → distinctIds (r ∷ rs) ≡ true → r .id .0 ≢ 0 → indexOf (r .id .0) rs ≡ length rs
+pub distinct-head : (r : Row) (rs : List Row) → distinctIds (r ∷ rs) ≡ true → r .id .0 ≢ 0 → indexOf (r .id .0) rs ≡ length rs
 unfolding distinctIds
 distinct-head r rs e n =
     let t : eqb (r .id .0) 0 || eqb (indexOf (r .id .0) rs) (length rs) ≡ true = and-both _ (distinctIds rs) e .0 in
     eqb-true (indexOf (r .id .0) rs) (length rs) (rw (ne-eqb (r .id .0) 0 n) at t)
 
 -- the rest has distinct ids
-distinct-tail : (r : Row) (rs : List Row) → distinctIds (r ∷ rs) ≡ true → distinctIds rs ≡ true
+pub distinct-tail : (r : Row) (rs : List Row) → distinctIds (r ∷ rs) ≡ true → distinctIds rs ≡ true
 unfolding distinctIds
 distinct-tail r rs e = and-both (eqb (r .id .0) 0 || eqb (indexOf (r .id .0) rs) (length rs)) (distinctIds rs) e .1
 
@@ -276,6 +276,11 @@ pub five-set : (rs : List Row) (k : ℕ) (r : Row) → FiveEach rs → length (r
 five-set [] k r f e = tt
 five-set (q ∷ rs) zero r f e = (e, f .1)
 five-set (q ∷ rs) (suc k) r f e = (f .0, five-set rs k r (f .1) e)
+
+-- ids that are bytes, after storing a row whose id is one
+pub ids-set : (rs : List Row) (n : ℕ) (r : Row) → n < length rs → r .id .0 ≤ 255 → ((k : ℕ) → k < length rs → idAt rs k ≤ 255)
+    → (k : ℕ) → k < length (set rs n r) → idAt (set rs n r) k ≤ 255
+ids-set rs n r h b f k i = set-each (λ _ (x : Row). x .id .0 ≤ 255) rs n r noRow h b (λ j q _. f j q) k (omega (arith, length-set rs n r))
 
 -- a free row holds nothing
 pub free-held : heldOf freeRow ≡ 0

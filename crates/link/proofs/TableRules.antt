@@ -26,7 +26,7 @@ use Rattle.link.specs.Claim.{State}
 use Rattle.link.specs.Pages.{FiveEach, Sane}
 use Rattle.link.proofs.Each.{each-make, set-each, sum-set}
 use Rattle.link.proofs.Shown.{Rules, rules-say, say-rules}
-use Rattle.link.proofs.Table.{distinct-one, distinct-set, shares-set, share-below, five-set, free-held, owner-some, owner-apart, owner-outside, owner-inside}
+use Rattle.link.proofs.Table.{distinct-one, distinct-set, shares-set, share-below, five-set, ids-set, free-held, owner-some, owner-apart, owner-outside, owner-inside}
 use Rattle.link.proofs.Holdings.{five-at, row-fits-at, blocks-say, say-blocks, row-owned}
 use Rattle.link.proofs.Decisions.{Decided, refuses, accepts, beats, starts, starts-not, stops, closes, ends-not, hands-over, claims, drops, appends, delivers}
 use Rattle.link.proofs.RowFacts.{place-below, service-place, facts-fit, OpenFacts}
@@ -151,6 +151,7 @@ module _ (s : State) (i n : ℕ) (k : Sane s) (f : OpenFacts s i n) where
       record {
         rows = len ∙ k .rows;
         five = five;
+        ids = ids-set rs n after (f .below) (same-or-not (after .id .0) 0 (λ z. omega arith) (λ z. omega (arith, x .ids z, k .ids n (f .below)))) (k .ids);
         owners = x .size ∙ k .owners;
         pool = e ∙ k .pool;
         settings = k .settings;

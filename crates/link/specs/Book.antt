@@ -16,8 +16,9 @@ use Rattle.frame.specs.Read.{readOf}
 use Rattle.session.specs.Decide.{placeOf, needOf}
 use Rattle.link.specs.declared.Grant.{Grant}
 use Rattle.link.specs.declared.Answer.{Answer}
-use Rattle.link.specs.declared.Answer.the-variants as answer
+use Rattle.link.specs.State.{serviceAt}
 use Rattle.link.specs.Call.{opens}
+use Rattle.link.specs.Values.{ack, reply, valuesOf, is, accepted}
 
 -- ---- calls and what is seen of them
 
@@ -37,9 +38,10 @@ pub record Event : Type 0 where
   pub answer : Answer
   pub out : List ℕ
 
--- what a frame asks of its session; services by their place, a First Frame with id, total and count, a consecutive one with id and payload
+-- what a frame asks of its session; services by their place, a Single Frame with its payload, a First Frame with id, total and count, a consecutive one
+-- with id and payload
 pub data Ask : Type 0 where
-  single : List ℕ → Ask
+  single : ℕ → List ℕ → Ask
   first : ℕ → ℕ → ℕ → ℕ → Ask
   next : ℕ → ℕ → List ℕ → Ask
   end : ℕ → Ask
@@ -54,7 +56,7 @@ pub data Seen : Type 0 where
 unfoldable pub askOf : Header → List ℕ → Ask
 askOf h payload =
     pick (eqb (h .kind) 0) (pick (eqb (h .info) 0x04) (end (placeOf (h .service .0))) other)
-    (pick (eqb (h .kind) 1) (single payload)
+    (pick (eqb (h .kind) 1) (single (placeOf (h .service .0)) payload)
     (pick (eqb (h .kind) 2) (first (placeOf (h .service .0)) (h .message .0) (valueBe (part payload 0 4)) (valueBe (part payload 4 4)))
     (next (placeOf (h .service .0)) (h .message .0) payload)))
 
@@ -66,48 +68,16 @@ seenIn s (reading.Frame h e) = pick (opens h) opening (within (h .session .0) (a
 unfoldable pub seenOf : List ℕ → Seen
 seenOf s = seenIn s (readOf s)
 
--- ---- answers
+-- ---- answers, by their values
 
 -- "Accepted: neither Short nor refused."
 abbrev pub isAccepted : Answer → Bool
-isAccepted (answer.Short n) = false
-isAccepted (answer.Refused n) = false
-isAccepted (answer.Acked c n) = true
-isAccepted (answer.Nacked c n) = true
-isAccepted (answer.Beat c n) = true
-isAccepted (answer.Accepted c) = true
-isAccepted (answer.Delivered c v n) = true
+isAccepted a = accepted (valuesOf a)
 
 abbrev pub isAck : Answer → Bool
-isAck (answer.Short n) = false
-isAck (answer.Refused n) = false
-isAck (answer.Acked c n) = true
-isAck (answer.Nacked c n) = false
-isAck (answer.Beat c n) = false
-isAck (answer.Accepted c) = false
-isAck (answer.Delivered c v n) = false
+isAck a = is (reply ack) (valuesOf a)
 
--- document 01's number and values of an answer: a refusal's number, what Short needs in all, "the bytes consumed (0 if Short or refused)", the
--- bytes at the front of out (a reply's or a delivery's) and a delivery's service; 0 where an answer has none
-pub record Values : Type 0 where
-  pub refusal : ℕ
-  pub needed : ℕ
-  pub consumed : ℕ
-  pub written : ℕ
-  pub service : ℕ
-
-abbrev values : ℕ → ℕ → ℕ → ℕ → ℕ → Values
-values refusal needed consumed written service = record { refusal = refusal; needed = needed; consumed = consumed; written = written; service = service }
-
-abbrev pub valuesOf : Answer → Values
-valuesOf (answer.Short n) = values 0 n 0 0 0
-valuesOf (answer.Refused n) = values n 0 0 0 0
-valuesOf (answer.Acked c n) = values 0 0 c n 0
-valuesOf (answer.Nacked c n) = values 0 0 c n 0
-valuesOf (answer.Beat c n) = values 0 0 c n 0
-valuesOf (answer.Accepted c) = values 0 0 c 0 0
-valuesOf (answer.Delivered c v n) = values 0 0 c n (v .0)
-
+-- a refusal's number, else 0
 abbrev pub refusalOf : Answer → ℕ
 refusalOf a = valuesOf a .refusal
 
@@ -172,6 +142,15 @@ needsIn (n ∷ ns) = n .need + needsIn ns
 abbrev pub needsOf : Page → ℕ
 needsOf p = needsIn (p .notes)
 
+-- the same of a page that may be missing, and the sum over n ids from k on: 1 to 255 are all that a book gives
+abbrev pub needsAt : Option Page → ℕ
+needsAt none = 0
+needsAt (some p) = needsOf p
+
+unfoldable pub needsInAll : Book → ℕ → ℕ → ℕ
+needsInAll b zero k = 0
+needsInAll b (suc n) k = needsAt (b k) + needsInAll b n (suc k)
+
 -- "An accepted First Frame enters a message under session, service and message id: need, count, no bytes."
 abbrev pub entered : Page → ℕ → ℕ → ℕ → ℕ → Page
 entered p place id total count = withNote p place (record { live = true; id = id; need = needOf total; count = count; came = 0; bytes = [] })
@@ -191,7 +170,7 @@ struck p place id = pick (isUnder (noteAt p place) id) (withNote p place noNote)
 
 -- a session's page after a frame of it: "An End's ACK strikes out its session's messages on that service; for 07, the session"
 abbrev pub pageAfter : Page → Ask → Answer → Option Page
-pageAfter p (single payload) a = some p
+pageAfter p (single place payload) a = some p
 pageAfter p (first place id total count) a = some (pick (isAccepted a) (entered p place id total count) p)
 pageAfter p (next place id payload) a =
     some (pick (isAccepted a) (added p place id payload) (pick (eqb (refusalOf a) 24 || eqb (refusalOf a) 25) (struck p place id) p))
@@ -217,35 +196,43 @@ bookOf b (e ∷ l) = bookOf (bookAfter b (e .command) (e .answer)) l
 
 -- ---- delivery
 
--- the bytes that a frame completes: those of the message in the book with the payload, or a Single Frame's payload
-unfoldable pub dueFor : Note → ℕ → List ℕ → Option (List ℕ)
-dueFor n id payload = pick (isUnder n id && eqb (suc (n .came)) (n .count)) (some (n .bytes ++ payload)) none
+-- what a frame completes: a service and the message's bytes on it
+pub record Due : Type 0 where
+  pub service : ℕ
+  pub bytes : List ℕ
 
-abbrev pub dueOn : Option Page → Ask → Option (List ℕ)
+abbrev pub dueAt : ℕ → List ℕ → Due
+dueAt place bytes = record { service = serviceAt place; bytes = bytes }
+
+-- the bytes of the message in the book with the payload, or a Single Frame's payload
+unfoldable pub dueFor : ℕ → Note → ℕ → List ℕ → Option Due
+dueFor place n id payload = pick (isUnder n id && eqb (suc (n .came)) (n .count)) (some (dueAt place (n .bytes ++ payload))) none
+
+abbrev pub dueOn : Option Page → Ask → Option Due
 dueOn none q = none
-dueOn (some p) (single payload) = some payload
+dueOn (some p) (single place payload) = some (dueAt place payload)
 dueOn (some p) (first place id total count) = none
-dueOn (some p) (next place id payload) = dueFor (noteAt p place) id payload
+dueOn (some p) (next place id payload) = dueFor place (noteAt p place) id payload
 dueOn (some p) (end place) = none
 dueOn (some p) other = none
 
-abbrev pub dueIn : Book → Seen → Option (List ℕ)
+abbrev pub dueIn : Book → Seen → Option Due
 dueIn b opening = none
 dueIn b (within i q) = dueOn (b i) q
 dueIn b nothing = none
 
-abbrev pub dueOf : Book → Command → Option (List ℕ)
+abbrev pub dueOf : Book → Command → Option Due
 dueOf b (call q) = dueIn b (seenOf (q .input))
 
 -- ---- the shorter list
 
--- "whose fourth input byte is missing or is another"
+-- the calls that are not left out: those "whose fourth input byte is missing or isn't that session's id" are
 abbrev pub names : ℕ → Command → Bool
 names i (call q) = ltb 3 (length (q .input)) && eqb (getD (q .input) 3 0) i
 
 abbrev pub endsRpc : Seen → Bool
 endsRpc opening = false
-endsRpc (within i (single payload)) = false
+endsRpc (within i (single place payload)) = false
 endsRpc (within i (first place id total count)) = false
 endsRpc (within i (next place id payload)) = false
 endsRpc (within i (end place)) = eqb place 1
@@ -259,7 +246,7 @@ closes (call q) a = isAck a && endsRpc (seenOf (q .input))
 unfoldable pub shuts : ℕ → Event → Bool
 shuts i e = names i (e .command) && closes (e .command) (e .answer)
 
--- "cut after the session's closing"
+-- "cut the list after a session's closing, if it has one"
 unfoldable pub untilClosed : ℕ → List Event → List Event
 untilClosed i [] = []
 untilClosed i (e ∷ l) = e ∷ pick (shuts i e) [] (untilClosed i l)
@@ -282,7 +269,7 @@ reachesRoom a = isAccepted a || (eqb (refusalOf a) 20 || eqb (refusalOf a) 21)
 abbrev pub ModestOn : Option Page → Seen → Answer → Type 0
 ModestOn none x a = Unit {0}
 ModestOn (some p) opening a = Unit {0}
-ModestOn (some p) (within i (single payload)) a = Unit {0}
+ModestOn (some p) (within i (single place payload)) a = Unit {0}
 ModestOn (some p) (within i (first place id total count)) a = T (reachesRoom a) → needsOf p + needOf total ≤ p .guarantee
 ModestOn (some p) (within i (next place id payload)) a = Unit {0}
 ModestOn (some p) (within i (end place)) a = Unit {0}

@@ -9,6 +9,7 @@ use lib.ListN.{length, getD, take}
 use Rattle.numbers.specs.Bytes.{pick, unless, part, laid}
 use Rattle.numbers.specs.Numbers.{valueBe}
 use Rattle.frame.specs.declared.Header.{Header}
+use Rattle.frame.specs.declared.MessageId.{MessageId}
 use Rattle.frame.specs.declared.Extent.{Extent}
 use Rattle.frame.specs.declared.Reading.{Reading}
 use Rattle.frame.specs.declared.Reading.the-variants as reading
@@ -28,14 +29,14 @@ use Rattle.session.specs.declared.Row.{Row}
 use Rattle.session.specs.declared.Said.{Said}
 use Rattle.session.specs.declared.Act.{Act}
 use Rattle.session.specs.declared.Act.the-variants.{Refuse, Drop, Accept, Beat, Start, NoStart, Stop, Close, NoEnd, Claim, Append, Deliver, Single}
-use Rattle.session.specs.Rows.{noRow, openedRow, messageAt}
+use Rattle.session.specs.Rows.{noMessageId, noRow, openedRow, messageAt}
 use Rattle.session.specs.Rules.{replyVersion, barredBy}
 use Rattle.session.specs.Decide.{placeOf, needOf, shareOf, controlOf, contentOf, rowAfter}
 use Rattle.link.specs.declared.Link.{Link}
 use Rattle.link.specs.declared.Grant.{Grant}
 use Rattle.link.specs.declared.Answer.{Answer}
 use Rattle.link.specs.declared.Answer.the-variants as answer
-use Rattle.link.specs.State.{indexOf, ownerOf, sharesIn, guardOf, withOwners, withRow, lowestFree}
+use Rattle.link.specs.State.{indexOf, ownerOf, sharesIn, guardOf, withOwners, withRow, newId}
 use Rattle.link.specs.Reply.{replyBytes, startAck, startNak, endAck, endNak, beatAck, oldAck, newAck, openingNak, grantedPayload}
 
 -- what a call leaves
@@ -87,19 +88,19 @@ module _ (l : Link) (p o : List ℕ) (consumed : ℕ) (g : Grant) where
   abbrev pub notOpened : List ℕ → After
   notOpened payload = let bytes = openingNak (l .version .major) payload in after (answer.Nacked consumed (length bytes)) l p (laid bytes o)
 
-  -- the session's row in the first free place, and the ACK: "A new one gets the lowest id from 1 to 255 that isn't open."
+  -- the session's row in the first free place, and the ACK
   abbrev pub opened : ℕ → List ℕ → After
   opened version bytes =
       after (answer.Acked consumed (length bytes))
-      (withRow l (indexOf 0 (l .rows)) (openedRow (record { 0 = lowestFree 255 1 (l .rows) }) (g .guarantee) (g .cap) version (g .hash)))
+      (withRow l (indexOf 0 (l .rows)) (openedRow (newId (l .rows)) (g .guarantee) (g .cap) version (g .hash)))
       p (laid bytes o)
 
   -- bad: "a NAK with rejectedParams ["protocolVersion"]"; "then, with any M, no free row, or a state rule broken by G, gets a NAK of data size 0"; old: "reply
   -- ACK with header version min(M, 4)"; new: "Otherwise settle on the lesser of both versions"
   abbrev pub openingBy : Wish → After
   openingBy bad = notOpened (nakPayload protocolVersion)
-  openingBy old = unless (admits (l .rows) g) (notOpened []) (opened (oldVersion (l .version .major)) (oldAck (l .version .major) (lowestFree 255 1 (l .rows)) (g .hash)))
-  openingBy (new v) = unless (admits (l .rows) g) (notOpened []) (opened 5 (newAck (lowestFree 255 1 (l .rows)) (g .hash) (l .mtu) (lesserOf (l .version) v)))
+  openingBy old = unless (admits (l .rows) g) (notOpened []) (opened (oldVersion (l .version .major)) (oldAck (l .version .major) (newId (l .rows)) (g .hash)))
+  openingBy (new v) = unless (admits (l .rows) g) (notOpened []) (opened 5 (newAck (newId (l .rows)) (g .hash) (l .mtu) (lesserOf (l .version) v)))
 
 -- ---- in a session
 
@@ -143,8 +144,8 @@ module _ (l : Link) (i : ℕ) (p o : List ℕ) (h : Header) (consumed : ℕ) (pa
       appended owner (m .total - m .missing) payload (l .owners) p
 
   -- "Replies carry its id and version (unsettled: min(M, 4))."
-  abbrev reply : ℕ → ℕ → List ℕ → List ℕ
-  reply info message bytes = replyBytes (replyVersion (l .version .major) row) (h .service) info (row .id .0) message bytes
+  abbrev reply : ℕ → MessageId → List ℕ → List ℕ
+  reply info message bytes = replyBytes (replyVersion (l .version .major) row) (h .service) info (row .id) message bytes
 
   abbrev replied : (ℕ → ℕ → Answer) → Link → List ℕ → After
   replied kind after-link bytes = after (kind consumed (length bytes)) after-link p (laid bytes o)
@@ -156,12 +157,12 @@ module _ (l : Link) (i : ℕ) (p o : List ℕ) (h : Header) (consumed : ℕ) (pa
   applied (Refuse n) = after (answer.Refused n) l p o
   applied (Drop n) = after (answer.Refused n) (freedAfter (Drop n)) p o
   applied Accept = after (answer.Accepted consumed) l p o
-  applied Beat = replied answer.Beat l (reply beatAck 0 [])
+  applied Beat = replied answer.Beat l (reply beatAck noMessageId [])
   applied Start = replied answer.Acked (linkAfter Start) (reply startAck (row .next) (grantedPayload (row .version) (g .hash) (l .mtu)))
-  applied NoStart = replied answer.Nacked l (reply startNak 0 [])
+  applied NoStart = replied answer.Nacked l (reply startNak noMessageId [])
   applied Stop = replied answer.Acked (freedAfter Stop) (reply endAck (row .next) [])
   applied Close = replied answer.Acked (withOwners (linkAfter Close) (released (ownerOf i 0) (ownerOf i 4) (l .owners))) (reply endAck (row .next) [])
-  applied (NoEnd named) = replied answer.Nacked l (reply endNak 0 (pick named (nakPayload hashId) []))
+  applied (NoEnd named) = replied answer.Nacked l (reply endNak noMessageId (pick named (nakPayload hashId) []))
   applied (Claim total count) = after (answer.Accepted consumed) (withOwners (linkAfter (Claim total count)) (claimed owner (needOf total) (l .owners))) p o
   applied Append = after (answer.Accepted consumed) (linkAfter Append) poolAfter o
   applied Deliver =

@@ -2,13 +2,11 @@
 -- Proved in proofs/Figures. (frame and payload have further worked cases of their own.)
 -- Assumes nothing.
 use Prim.Native.Nat.{ℕ, _-_, _*_}
-use mathlib.Core.Bool.{false}
-use mathlib.Core.List.{List, [], _∷_, map}
+use mathlib.Core.List.{List, [], _∷_, _++_, map}
 use mathlib.Core.Path.{_≡_}
-use lib.ListN.{length}
+use lib.ListN.{length, take, replicate}
 use Rattle.numbers.specs.Bytes.{part}
-use Rattle.numbers.specs.Numbers.{valueBe}
-use Rattle.frame.specs.declared.Header.{Header}
+use Rattle.numbers.specs.Numbers.{valueBe, bytesBe}
 use Rattle.frame.specs.declared.Reading.{Reading}
 use Rattle.frame.specs.declared.Reading.the-variants as reading
 use Rattle.frame.specs.Read.{readOf}
@@ -19,12 +17,13 @@ use Rattle.payload.specs.Tags.{protocolVersion}
 use Rattle.payload.specs.Version.{versionOf, versionText}
 use Rattle.payload.specs.Reply.{document, stringElement, ackPayload, nakPayload}
 use Rattle.session.specs.declared.Row.{Row}
-use Rattle.session.specs.declared.Act.{Act}
-use Rattle.session.specs.declared.Act.the-variants.{Refuse, Drop, Accept, Beat, Start, NoStart, Stop, Close, NoEnd, Claim, Append, Deliver, Single}
-use Rattle.session.specs.Rows.{openedRow, admittedRow}
-use Rattle.session.specs.Decide.{needOf, shareOf, firstOf}
-use Rattle.link.specs.Reply.{oldAck, openingNak}
-use Rattle.link.specs.Book.{Seen, opening, within, nothing, seenOf}
+use Rattle.session.specs.Rows.{freeRow, openedRow, admittedRow}
+use Rattle.session.specs.Decide.{needOf}
+use Rattle.link.specs.declared.Link.{Link}
+use Rattle.link.specs.declared.Answer.{Answer}
+use Rattle.link.specs.declared.Answer.the-variants as answer
+use Rattle.link.specs.State.{ownerOf, createdLink}
+use Rattle.link.specs.Call.{After, callOf}
 
 pub record Figure : Type 0 where
   pub says : List ℕ
@@ -33,21 +32,34 @@ pub record Figure : Type 0 where
 abbrev figure : List ℕ → List ℕ → Figure
 figure s e = record { says = s; expected = e }
 
--- a decision as numbers: the refusal's, or 0 where the message is admitted
-abbrev outcome : Act → List ℕ
-outcome (Refuse n) = n ∷ []
-outcome (Claim total count) = 0 ∷ []
-outcome (Drop n) = []
-outcome Accept = []
-outcome Beat = []
-outcome Start = []
-outcome NoStart = []
-outcome Stop = []
-outcome Close = []
-outcome (NoEnd named) = []
-outcome Append = []
-outcome Deliver = []
-outcome Single = []
+abbrev version541 : Version
+version541 = record { major = 5; minor = 4; patch = 1 }
+
+-- an answer as numbers: the refusal's, or 0 where it is accepted silently; a reply's bytes
+abbrev outcome : After → Answer → List ℕ
+outcome w (answer.Short n) = []
+outcome w (answer.Refused n) = n ∷ []
+outcome w (answer.Acked c n) = take n (w .out)
+outcome w (answer.Nacked c n) = take n (w .out)
+outcome w (answer.Beat c n) = take n (w .out)
+outcome w (answer.Accepted c) = 0 ∷ []
+outcome w (answer.Delivered c v n) = []
+
+-- a call with an offer of G 100; what it answers
+abbrev gives : Link → List ℕ → List ℕ → List ℕ
+gives l pool input =
+    let w : After = callOf l pool input (replicate 128 0xFF) (record { guarantee = 100; cap = 256; hash = 39027 }) in
+    outcome w (w .answer)
+
+-- a link of module 5.4.1 with two sessions in its first rows, and so many blocks of the map, the first ones, with B's message on service 07; were they not as
+-- the rows say, a call would answer 10
+abbrev linkOf : Row → Row → ℕ → Link
+linkOf a b blocks = record {
+  version = version541;
+  mtu = 131084;
+  rows = a ∷ b ∷ replicate 6 freeRow;
+  owners = replicate blocks (ownerOf 1 1) ++ replicate (256 - blocks) 0;
+}
 
 -- "A: G 100, C 200; B: G 100, C 256; both empty."
 abbrev sessionA : Row
@@ -56,32 +68,20 @@ sessionA = openedRow (record { 0 = 1 }) 100 200 5 0
 abbrev sessionB : Row
 sessionB = openedRow (record { 0 = 2 }) 100 256 5 0
 
--- a First Frame on service 07
-abbrev firstFrame : Header
-firstFrame = record {
-  version = 5;
-  flag = false;
-  kind = 2;
-  service = record { 0 = 0x07 };
-  info = 0;
-  session = record { 0 = 1 };
-  size = 8;
-  message = record { 0 = 7 };
-}
-
--- a session asks for so many whole blocks, in one frame, where the others take this room
-abbrev asks : Row → ℕ → ℕ → List ℕ
-asks r others blocks = outcome (firstOf r others firstFrame (blocks * 256) 1)
+abbrev bothEmpty : Link
+bothEmpty = linkOf sessionA sessionB 0
 
 -- "With B at 156"
-abbrev sessionB156 : Row
-sessionB156 = admittedRow sessionB 1 (record { 0 = 7 }) (156 * 256) 1
+abbrev withB156 : Link
+withB156 = linkOf sessionA (admittedRow sessionB 1 (record { 0 = 7 }) (156 * 256) 1) 156
 
--- 1 where an input is seen as an opening
-abbrev isOpening : Seen → List ℕ
-isOpening opening = 1 ∷ []
-isOpening (within i ask) = 0 ∷ []
-isOpening nothing = 0 ∷ []
+-- a First Frame on service 07 that asks for so many whole blocks, in one frame
+abbrev asks : ℕ → ℕ → List ℕ
+asks session blocks = 0x52 ∷ 0x07 ∷ 0 ∷ session ∷ 0 ∷ 0 ∷ 0 ∷ 0x08 ∷ 0 ∷ 0 ∷ 0 ∷ 0x07 ∷ (bytesBe 4 (blocks * 256) ++ bytesBe 4 1)
+
+-- an opening without payload
+abbrev start : List ℕ
+start = 0x10 ∷ 0x07 ∷ 0x01 ∷ 0 ∷ 0 ∷ 0 ∷ 0 ∷ 0 ∷ []
 
 -- a First Frame's version, total and count, and the blocks that it needs
 abbrev announces : List ℕ → Reading → List ℕ
@@ -96,18 +96,16 @@ abbrev parts : VersionText → List ℕ
 parts (text.Good v) = v .major ∷ v .minor ∷ v .patch ∷ []
 parts text.Bad = []
 
-abbrev version541 : Version
-version541 = record { major = 5; minor = 4; patch = 1 }
-
 abbrev announcement : List ℕ
 announcement = 0x52 ∷ 0x07 ∷ 0 ∷ 0x01 ∷ 0 ∷ 0 ∷ 0 ∷ 0x08 ∷ 0 ∷ 0 ∷ 0 ∷ 0x07 ∷ 0 ∷ 0 ∷ 0x02 ∷ 0x58 ∷ 0 ∷ 0 ∷ 0 ∷ 0x02 ∷ []
 
-unfoldable pub figures : List Figure
-figures =
-    -- "`10 07 01 00 00 00 00 00`: opening."
-    figure (isOpening (seenOf (0x10 ∷ 0x07 ∷ 0x01 ∷ 0 ∷ 0 ∷ 0 ∷ 0 ∷ 0 ∷ []))) (1 ∷ [])
-    -- "NAK: `40 07 03` and nine zeros"
-    ∷ figure (openingNak 5 []) (0x40 ∷ 0x07 ∷ 0x03 ∷ 0 ∷ 0 ∷ 0 ∷ 0 ∷ 0 ∷ 0 ∷ 0 ∷ 0 ∷ 0 ∷ [])
+-- for a pool of any bytes; each call goes from the whole state
+unfoldable pub figures : List ℕ → List Figure
+figures pool =
+    -- "`10 07 01 00 00 00 00 00`: opening.": on a new link its reply is that of the bench's whole case, "40070201000000040000000100009873"
+    figure (gives (createdLink version541 131084) pool start) (0x40 ∷ 0x07 ∷ 0x02 ∷ 0x01 ∷ 0 ∷ 0 ∷ 0 ∷ 0x04 ∷ 0 ∷ 0 ∷ 0 ∷ 0x01 ∷ 0 ∷ 0 ∷ 0x98 ∷ 0x73 ∷ [])
+    -- "NAK: `40 07 03` and nine zeros": on a link whose sessions' guarantees leave no room for another 100
+    ∷ figure (gives bothEmpty pool start) (0x40 ∷ 0x07 ∷ 0x03 ∷ 0 ∷ 0 ∷ 0 ∷ 0 ∷ 0 ∷ 0 ∷ 0 ∷ 0 ∷ 0 ∷ [])
     -- "`52 07 00 01 .. 00 00 02 58 00 00 00 02`: version 5, total 600, count 2, 3 blocks."; type 2 is a First Frame
     ∷ figure (announces announcement (readOf announcement)) (5 ∷ 2 ∷ 600 ∷ 2 ∷ 3 ∷ [])
     -- "Total 256 needs 1 block, 257 needs 2, 65,536 needs 256."
@@ -119,17 +117,19 @@ figures =
     -- "The ACK payload with it has 57; the NAK's 49."
     ∷ figure (map length (document (stringElement protocolVersion (versionText version541)) ∷ ackPayload 39027 131084 version541 ∷ nakPayload protocolVersion ∷ [])) (32 ∷ 57 ∷ 49 ∷ [])
     -- "B asks 156 blocks: admitted; 157: 21. With B at 156, A asks 100: admitted; 101: 21. A asks 201: 20."
-    ∷ figure (asks sessionB (shareOf sessionA) 156) (0 ∷ [])
-    ∷ figure (asks sessionB (shareOf sessionA) 157) (21 ∷ [])
-    ∷ figure (asks sessionA (shareOf sessionB156) 100) (0 ∷ [])
-    ∷ figure (asks sessionA (shareOf sessionB156) 101) (21 ∷ [])
-    ∷ figure (asks sessionA (shareOf sessionB156) 201) (20 ∷ [])
+    ∷ figure (gives bothEmpty pool (asks 2 156)) (0 ∷ [])
+    ∷ figure (gives bothEmpty pool (asks 2 157)) (21 ∷ [])
+    ∷ figure (gives withB156 pool (asks 1 100)) (0 ∷ [])
+    ∷ figure (gives withB156 pool (asks 1 101)) (21 ∷ [])
+    ∷ figure (gives withB156 pool (asks 1 201)) (20 ∷ [])
     -- ""5.04.1" bad; "5.0.0" good."
     ∷ figure (parts (versionOf (0x35 ∷ 0x2E ∷ 0x30 ∷ 0x34 ∷ 0x2E ∷ 0x31 ∷ []))) []
     ∷ figure (parts (versionOf (0x35 ∷ 0x2E ∷ 0x30 ∷ 0x2E ∷ 0x30 ∷ []))) (5 ∷ 0 ∷ 0 ∷ [])
-    -- not marked: the reply of the bench's whole case, "40070201000000040000000100009873"
-    ∷ figure (oldAck 5 1 39027) (0x40 ∷ 0x07 ∷ 0x02 ∷ 0x01 ∷ 0 ∷ 0 ∷ 0 ∷ 0x04 ∷ 0 ∷ 0 ∷ 0 ∷ 0x01 ∷ 0 ∷ 0 ∷ 0x98 ∷ 0x73 ∷ [])
     ∷ []
 
 abbrev pub AllRight : List Figure → Type 0
 AllRight fs = map (λ (f : Figure). f .says) fs ≡ map (λ (f : Figure). f .expected) fs
+
+-- the statement
+abbrev pub FiguresRight : Type 0
+FiguresRight = (pool : List ℕ) → length pool ≡ 65536 → AllRight (figures pool)

@@ -1,9 +1,11 @@
 pub mod State
 pub mod Reply
 pub mod Call
+pub mod Values
 pub mod Refusal
 pub mod Book
 pub mod Claim
 pub mod Pages
+pub mod ReadBack
 pub mod Arrival
 pub mod Figures

@@ -1,7 +1,7 @@
 -- The state, read as a book: each open message is read off its row and its blocks. This is how the proof compares the two; the claim
 -- itself does not speak of it.
 -- Assumes nothing.
-use Prim.Native.Nat.{ℕ, suc, _-_}
+use Prim.Native.Nat.{ℕ, suc, _-_, _≤_, _<_}
 use mathlib.Core.Path.{_≡_}
 use mathlib.Core.Bool.{true}
 use mathlib.Core.Option.{Option, none, some}
@@ -55,10 +55,11 @@ abbrev pub FiveEach : List Row → Type 0
 FiveEach [] = Unit {0}
 FiveEach (r ∷ rs) = (length (r .messages) ≡ 5) × FiveEach rs
 
--- a state that calls lead to: its arrays have their lengths, as code gives them, and the state rules hold
+-- a state that calls lead to: its arrays have their lengths and its ids are bytes, as code gives them, and the state rules hold
 pub record Sane (s : State) : Type 0 where
   pub rows : length (s .link .rows) ≡ 8
   pub five : FiveEach (s .link .rows)
+  pub ids : (k : ℕ) → k < length (s .link .rows) → getD (s .link .rows) k noRow .id .0 ≤ 255
   pub owners : length (s .link .owners) ≡ 256
   pub pool : length (s .pool) ≡ 65536
   pub settings : settingsFit (s .link .version) (s .link .mtu) ≡ true

@@ -9,24 +9,27 @@ use Rattle.numbers.specs.Bytes.{pick}
 use Rattle.numbers.specs.Numbers.{bytesBe}
 use Rattle.frame.specs.declared.Header.{Header}
 use Rattle.frame.specs.declared.ServiceType.{ServiceType}
+use Rattle.frame.specs.declared.SessionId.{SessionId}
+use Rattle.frame.specs.declared.MessageId.{MessageId}
 use Rattle.frame.specs.Write.{frameBytes}
 use Rattle.payload.specs.Reply.{ackPayload, serviceAckPayload}
 use Rattle.payload.specs.declared.version.Version.{Version}
+use Rattle.session.specs.Rows.{noSessionId, noMessageId}
 
 -- a reply's header: a control frame without flag
-abbrev pub replyHeader : ℕ → ServiceType → ℕ → ℕ → ℕ → ℕ → Header
+abbrev pub replyHeader : ℕ → ServiceType → ℕ → SessionId → ℕ → MessageId → Header
 replyHeader version service info session size message = record {
   version = version;
   flag = false;
   kind = 0;
   service = service;
   info = info;
-  session = record { 0 = session };
+  session = session;
   size = size;
-  message = record { 0 = message };
+  message = message;
 }
 
-abbrev pub replyBytes : ℕ → ServiceType → ℕ → ℕ → ℕ → List ℕ → List ℕ
+abbrev pub replyBytes : ℕ → ServiceType → ℕ → SessionId → MessageId → List ℕ → List ℕ
 replyBytes version service info session message payload = frameBytes (replyHeader version service info session (length payload) message) payload
 
 -- the infos of replies, from document 000's table: Start Service ACK and NAK, End Service ACK and NAK, Heartbeat ACK
@@ -49,17 +52,21 @@ beatAck = 0xFF
 abbrev pub rpc : ServiceType
 rpc = record { 0 = 0x07 }
 
--- "reply ACK with header version min(M, 4) and the hash as 4 raw bytes, most significant first"; the first ACK has message id 1
-abbrev pub oldAck : ℕ → ℕ → ℕ → List ℕ
-oldAck major session hash = replyBytes (min major 4) rpc startAck session 1 (bytesBe 4 hash)
+-- "Each session keeps a message counter for its ACKs: first 1"
+abbrev pub firstMessageId : MessageId
+firstMessageId = record { 0 = 1 }
+
+-- "reply ACK with header version min(M, 4) and the hash as 4 raw bytes, most significant first"
+abbrev pub oldAck : ℕ → SessionId → ℕ → List ℕ
+oldAck major session hash = replyBytes (min major 4) rpc startAck session firstMessageId (bytesBe 4 hash)
 
 -- "the ACK has header version 5 and a payload of hashId (int32), mtu (int64), protocolVersion (string)"
-abbrev pub newAck : ℕ → ℕ → ℕ → Version → List ℕ
-newAck session hash mtu v = replyBytes 5 rpc startAck session 1 (ackPayload hash mtu v)
+abbrev pub newAck : SessionId → ℕ → ℕ → Version → List ℕ
+newAck session hash mtu v = replyBytes 5 rpc startAck session firstMessageId (ackPayload hash mtu v)
 
 -- "NAKs of opening: header version min(M, 4), session 0, message id 0."
 abbrev pub openingNak : ℕ → List ℕ → List ℕ
-openingNak major payload = replyBytes (min major 4) rpc startNak 0 0 payload
+openingNak major payload = replyBytes (min major 4) rpc startNak noSessionId noMessageId payload
 
 -- a service's ACK: "(version 5: hashId, mtu; below: raw hash)"
 unfoldable pub grantedPayload : ℕ → ℕ → ℕ → List ℕ

@@ -6,6 +6,7 @@ use mathlib.Core.List.{List, [], _∷_}
 use lib.Dec.{eqb, leb}
 use lib.ListN.{length, getD, set, replicate}
 use Rattle.numbers.specs.Bytes.{pick}
+use Rattle.frame.specs.declared.SessionId.{SessionId}
 use Rattle.frame.specs.Message.{totalsFit}
 use Rattle.blocks.specs.Map.{heldBy, heldByAll, freeIn, freeMap}
 use Rattle.payload.specs.declared.version.Version.{Version}
@@ -122,7 +123,11 @@ withOwners l os = record { version = l .version; mtu = l .mtu; rows = l .rows; o
 abbrev pub withRow : Link → ℕ → Row → Link
 withRow l i r = withRows l (set (l .rows) i r)
 
--- "A new one gets the lowest id from 1 to 255 that isn't open." So many ids from k on are tried; 0 if all are open.
+-- the lowest number that is no open session's id: so many from k on are tried; 0 if each is one
 unfoldable pub lowestFree : ℕ → ℕ → List Row → ℕ
 lowestFree zero k rs = 0
 lowestFree (suc n) k rs = pick (eqb (indexOf k rs) (length rs)) k (lowestFree n (suc k) rs)
+
+-- "A new one gets the lowest id from 1 to 255 that isn't open."
+abbrev pub newId : List Row → SessionId
+newId rs = record { 0 = lowestFree 255 1 rs }
