@@ -16,6 +16,7 @@ use Rattle.numbers.proofs.Slices.{rest-lent}
 use Rattle.lines.specs.Hex.{bytesOf}
 use Rattle.lines.specs.Newline.{lineLength, lineEndOf}
 use Rattle.link.specs.Call.{callOf}
+use Rattle.link.specs.Values.{outcomeOf}
 use Rattle.text.specs.Pieces.{fitting, putInto}
 use Rattle.text.proofs.Lists.{put-front}
 use Rattle.benchline.specs.declared.Bench.{Bench}
@@ -106,9 +107,9 @@ size-within : (b : Bench) (line pool out text : List ℕ) → Within (lineOf b l
 unfolding lineOf
 size-within b line pool out text =
     let number = nextOf (b .lines) in
-    let a = callOf (b .link) pool (bytesOf line) out offer in
+    let o = outcomeOf (callOf (b .link) pool (bytesOf line) out offer) in
     unless-elim Within (leb (mostText out) (length text)) _ _ (λ _. omega arith) λ _.
-    either Within (isTaken line) _ _ (λ _. said-within (textOf number (verdictOf (a .answer) (a .out))) text) (λ _. said-within (textOf number (letterX ∷ [])) text)
+    either Within (isTaken line) _ _ (λ _. said-within (textOf number (verdictOf (o .values) (o .out))) text) (λ _. said-within (textOf number (letterX ∷ [])) text)
 
 module _ {t : Turn} {pool′ out′ text′ : List ℕ} (b : Bench) (line pool out : List ℕ) where
   pub text-within : (text : List ℕ) → left t pool′ out′ text′ ≡ lineOf b line pool out text → sizeOf (t .output) ≤ length text′

@@ -23,9 +23,9 @@ use Rattle.frame.specs.declared.Reading.the-variants as reading
 use Rattle.frame.specs.Read.{readOf}
 use Rattle.link.specs.declared.Link.{Link}
 use Rattle.link.specs.declared.Grant.{Grant}
-use Rattle.link.specs.Call.{After, callOf}
-use Rattle.headunit.specs.declared.Called.{Called}
-use Rattle.headunit.specs.Unit.{Sent, sent, sentOf, leaves}
+use Rattle.link.specs.Call.{callOf}
+use Rattle.link.specs.Values.{Outcome, outcomeOf}
+use Rattle.headunit.specs.Unit.{Sent, sent, sentOf}
 use Rattle.benchline.specs.declared.Bench.{Bench}
 use Rattle.benchline.specs.declared.Output.the-variants.{Text}
 use Rattle.benchline.specs.declared.Input.{Input}
@@ -110,15 +110,14 @@ none-told false k e f = refl
 
 -- what an answered and a refused line leave
 module _ (text : List ℕ) {number count : ℕ} {text′ : List ℕ} where
-  pub answered-is : (lines : ℕ) (link : Link) (pool bytes out : List ℕ) {called : Called} {g : Grant} {pool′ out′ : List ℕ}
-      → number ≡ nextOf lines → g ≡ offer → leaves called pool′ out′ ≡ callOf link pool bytes out g
-      → sent count text′ ≡ sentOf (textOf number (verdictOf (called .answer) out′)) text
-      → _≡_ {A = Left} (record { output = Text count; bench = benchWith (called .link) number; pool = pool′; out = out′; text = text′ })
-      (answeredLine (nextOf lines) (callOf link pool bytes out offer) text)
-  answered-is lines link pool bytes out {called} {g} {pool′} {out′} n e c s =
-      ap (λ (w : Sent). record { output = Text (w .count); bench = benchWith (called .link) number; pool = pool′; out = out′; text = w .out }) s
-      ∙ ap (λ (a : After). answeredLine number a text) (c ∙ ap (λ (x : Grant). callOf link pool bytes out x) e)
-      ∙ ap (λ (k : ℕ). answeredLine k (callOf link pool bytes out offer) text) n
+  pub answered-is : (lines : ℕ) (link : Link) (pool bytes out : List ℕ) {o : Outcome} {g : Grant}
+      → number ≡ nextOf lines → g ≡ offer → o ≡ outcomeOf (callOf link pool bytes out g) → sent count text′ ≡ sentOf (textOf number (verdictOf (o .values) (o .out))) text
+      → _≡_ {A = Left} (record { output = Text count; bench = benchWith (o .link) number; pool = o .pool; out = o .out; text = text′ })
+      (answeredLine (nextOf lines) (outcomeOf (callOf link pool bytes out offer)) text)
+  answered-is lines link pool bytes out {o} n e c s =
+      ap (λ (w : Sent). record { output = Text (w .count); bench = benchWith (o .link) number; pool = o .pool; out = o .out; text = w .out }) s
+      ∙ ap (λ (x : Outcome). answeredLine number x text) (c ∙ ap (λ (x : Grant). outcomeOf (callOf link pool bytes out x)) e)
+      ∙ ap (λ (k : ℕ). answeredLine k (outcomeOf (callOf link pool bytes out offer)) text) n
 
   pub refused-is : (b : Bench) (pool out : List ℕ) → number ≡ nextOf (b .lines) → sent count text′ ≡ sentOf (textOf number (letterX ∷ [])) text
       → _≡_ {A = Left} (record { output = Text count; bench = benchWith (b .link) number; pool = pool; out = out; text = text′ }) (refusedLine b pool out text)
@@ -132,7 +131,7 @@ room-least out h = omega arith
 
 -- the line's outcomes
 module _ (b : Bench) (line pool out text : List ℕ) (room : mostText out ≤ length text) where
-  pub line-answered : {f : List ℕ} → isTaken line ≡ true → f ≡ bytesOf line → answeredLine (nextOf (b .lines)) (callOf (b .link) pool f out offer) text ≡ lineOf b line pool out text
+  pub line-answered : {f : List ℕ} → isTaken line ≡ true → f ≡ bytesOf line → answeredLine (nextOf (b .lines)) (outcomeOf (callOf (b .link) pool f out offer)) text ≡ lineOf b line pool out text
   unfolding lineOf
   line-answered e g = rw (g, le-leb (mostText out) (length text) room, e)
 

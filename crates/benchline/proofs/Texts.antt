@@ -13,10 +13,9 @@ use Rattle.lines.proofs.Characters.{length-hex}
 use Rattle.payload.specs.Append.{Appended}
 use Rattle.payload.proofs.Appends.{more, renamed}
 use Rattle.frame.specs.declared.ServiceType.{ServiceType}
-use Rattle.link.specs.declared.Answer.{Answer}
-use Rattle.link.specs.declared.Answer.the-variants as answer
+use Rattle.link.specs.Values.{Kind, short, refused, reply, silent, delivery, Values}
 use Rattle.headunit.specs.Unit.{sent, sentOf}
-use Rattle.benchline.specs.Line.{spaced, letterW, letterD, verdictOf, textOf}
+use Rattle.benchline.specs.Line.{spaced, letterW, letterD, verdictBy, verdictOf, textOf}
 
 -- the test for room without a sum that might not fit
 pub room-test : (t o : ℕ) → 32 ≤ t → leb o ((t - 32) / 2) ≡ leb (2 * o + 32) t
@@ -65,14 +64,15 @@ module _ {at m : ℕ} {o p q v : List ℕ} (n : ℕ) (out : List ℕ) where
   delivery-said s e f g = rw (e, ← f) g
 
 -- no verdict is empty
-pub verdict-some : (a : Answer) (out : List ℕ) → 32 ∷ verdictOf a out ≡ spaced (verdictOf a out)
-verdict-some (answer.Short n) out = refl
-verdict-some (answer.Refused n) out = refl
-verdict-some (answer.Acked c n) out = refl
-verdict-some (answer.Nacked c n) out = refl
-verdict-some (answer.Beat c n) out = refl
-verdict-some (answer.Accepted c) out = refl
-verdict-some (answer.Delivered c s n) out = refl
+verdict-by : (k : Kind) (v : Values) (out : List ℕ) → 32 ∷ verdictBy k v out ≡ spaced (verdictBy k v out)
+verdict-by short v out = refl
+verdict-by refused v out = refl
+verdict-by (reply r) v out = refl
+verdict-by silent v out = refl
+verdict-by delivery v out = refl
+
+pub verdict-some : (v : Values) (out : List ℕ) → 32 ∷ verdictOf v out ≡ spaced (verdictOf v out)
+verdict-some v out = verdict-by (v .kind) v out
 
 -- number and space, the verdict, and the newline
 joined : (d v : List ℕ) → 32 ∷ v ≡ spaced v → ((d ++ 32 ∷ []) ++ v) ++ 10 ∷ [] ≡ d ++ (spaced v ++ 10 ∷ [])

@@ -15,10 +15,9 @@ use Rattle.frame.specs.Read.{readOf}
 use Rattle.payload.specs.declared.version.Version.{Version}
 use Rattle.link.specs.declared.Link.{Link}
 use Rattle.link.specs.declared.Grant.{Grant}
-use Rattle.link.specs.declared.Answer.{Answer}
-use Rattle.link.specs.declared.Answer.the-variants as answer
 use Rattle.link.specs.State.{createdLink}
-use Rattle.link.specs.Call.{After, callOf}
+use Rattle.link.specs.Call.{callOf}
+use Rattle.link.specs.Values.{Kind, short, refused, reply, silent, delivery, Values, serviceBytes, Outcome, outcomeOf}
 use Rattle.benchline.specs.declared.Bench.{Bench}
 use Rattle.benchline.specs.declared.Output.{Output}
 use Rattle.benchline.specs.declared.Output.the-variants.{Text, Full}
@@ -82,14 +81,15 @@ abbrev pub letterD : ℕ
 letterD = 68
 
 -- "`W` reply, `D` service and bytes, `A` accepted silently, `R` number, or `X`": out is the buffer after the call
-abbrev pub verdictOf : Answer → List ℕ → List ℕ
-verdictOf (answer.Short n) out = letterX ∷ []
-verdictOf (answer.Refused n) out = letterR ∷ spaced (decimalOf n)
-verdictOf (answer.Acked c n) out = letterW ∷ spaced (hexOf (take n out))
-verdictOf (answer.Nacked c n) out = letterW ∷ spaced (hexOf (take n out))
-verdictOf (answer.Beat c n) out = letterW ∷ spaced (hexOf (take n out))
-verdictOf (answer.Accepted c) out = letterA ∷ []
-verdictOf (answer.Delivered c s n) out = letterD ∷ (spaced (hexOf (s .0 ∷ [])) ++ spaced (hexOf (take n out)))
+abbrev pub verdictBy : Kind → Values → List ℕ → List ℕ
+verdictBy short v out = letterX ∷ []
+verdictBy refused v out = letterR ∷ spaced (decimalOf (v .refusal))
+verdictBy (reply r) v out = letterW ∷ spaced (hexOf (take (v .written) out))
+verdictBy silent v out = letterA ∷ []
+verdictBy delivery v out = letterD ∷ (spaced (hexOf (serviceBytes (v .service))) ++ spaced (hexOf (take (v .written) out)))
+
+abbrev pub verdictOf : Values → List ℕ → List ℕ
+verdictOf v out = verdictBy (v .kind) v out
 
 -- "Output per line: line number and" verdict, and the newline
 abbrev pub textOf : ℕ → List ℕ → List ℕ
@@ -121,9 +121,9 @@ refusedLine b pool out text =
     saying (textOf (nextOf (b .lines)) (letterX ∷ [])) (b .link) (nextOf (b .lines)) pool out text
 
 -- a line that is taken: what the call left, and its verdict
-abbrev pub answeredLine : ℕ → After → List ℕ → Left
-answeredLine number a text =
-    saying (textOf number (verdictOf (a .answer) (a .out))) (a .link) number (a .pool) (a .out) text
+abbrev pub answeredLine : ℕ → Outcome → List ℕ → Left
+answeredLine number o text =
+    saying (textOf number (verdictOf (o .values) (o .out))) (o .link) number (o .pool) (o .out) text
 
 -- no text is longer: 20 digits of the number, 3 spaces, a letter, the service's 2 digits, two for each byte of out and a newline make
 -- 27 and twice out's bytes
@@ -134,5 +134,5 @@ mostText out = 2 * length out + 32
 unfoldable pub lineOf : Bench → List ℕ → List ℕ → List ℕ → List ℕ → Left
 lineOf b line pool out text =
     unless (leb (mostText out) (length text)) (record { output = Full; bench = b; pool = pool; out = out; text = text })
-    (pick (isTaken line) (answeredLine (nextOf (b .lines)) (callOf (b .link) pool (bytesOf line) out offer) text)
+    (pick (isTaken line) (answeredLine (nextOf (b .lines)) (outcomeOf (callOf (b .link) pool (bytesOf line) out offer)) text)
     (refusedLine b pool out text))

@@ -13,6 +13,7 @@ ghost use Rattle.lines.specs.Decimal.{decimalOf};
 ghost use Rattle.frame.specs.Read.{readOf};
 ghost use Rattle.payload.specs.Append.{Appended};
 ghost use Rattle.link.specs.Call.{callOf};
+ghost use Rattle.link.specs.Values.{valuesOf, outcomeOf};
 ghost use Rattle.headunit.specs.Unit.{sent, sentOf};
 ghost use Rattle.benchline.specs.declared.Input.the-variants.{Frame, NotTaken};
 ghost use Rattle.benchline.specs.Line.{offer as offered, newBench, isFrame, isTaken, spaced, letterX, letterR, letterW, letterD, verdictOf, textOf, nextOf, left, refusedLine, answeredLine, mostText, lineOf};
@@ -181,7 +182,7 @@ fn put_delivery(service: ServiceType, bytes: &[u8], at: usize, text: &mut [u8]) 
 // The answer's letter and its parts; out is the link's buffer after the call.
 fn put_verdict(answer: Answer, out: &[u8], at: usize, text: &mut [u8]) -> usize
     requires { ⌜ at + (2 * length (now out) + 5) ≤ length (now text) ⌝ }
-    ensures { λ r. ⌜ Appended at (verdictOf answer (now (out .entry))) (now (text .entry)) r (now (text .exit)) ⌝ }
+    ensures { λ r. ⌜ Appended at (verdictOf (valuesOf answer) (now (out .entry))) (now (text .entry)) r (now (text .exit)) ⌝ }
     ensures { λ r. ⌜ r ≤ at + (2 * length (now (out .entry)) + 5) ⌝ }
 {
     match answer {
@@ -210,7 +211,7 @@ fn put_number(number: u64, text: &mut [u8]) -> usize
 // The whole text of a line that the link answered.
 fn put_answer(number: u64, answer: Answer, out: &[u8], text: &mut [u8]) -> usize
     requires { ⌜ mostText (now out) ≤ length (now text) ⌝ }
-    ensures { λ r. ⌜ sent r (now (text .exit)) ≡ sentOf (textOf number (verdictOf answer (now (out .entry)))) (now (text .entry)) ⌝ }
+    ensures { λ r. ⌜ sent r (now (text .exit)) ≡ sentOf (textOf number (verdictOf (valuesOf answer) (now (out .entry)))) (now (text .entry)) ⌝ }
 {
     let start = put_number(number, text);
     let end = put_verdict(answer, out, start, text);
@@ -277,7 +278,7 @@ fn next_number(lines: u64) -> u64
 // A line that is taken: the link is called.
 fn answered(bench: Bench, bytes: &[u8], pool: &mut [u8], out: &mut [u8], text: &mut [u8]) -> Turn
     requires { ⌜ mostText (now out) ≤ length (now text) ⌝ }
-    ensures { λ r. ⌜ left r (now (pool .exit)) (now (out .exit)) (now (text .exit)) ≡ answeredLine (nextOf (bench .lines)) (callOf (bench .link) (now (pool .entry)) (now (bytes .entry)) (now (out .entry)) offered) (now (text .entry)) ⌝ }
+    ensures { λ r. ⌜ left r (now (pool .exit)) (now (out .exit)) (now (text .exit)) ≡ answeredLine (nextOf (bench .lines)) (outcomeOf (callOf (bench .link) (now (pool .entry)) (now (bytes .entry)) (now (out .entry)) offered)) (now (text .entry)) ⌝ }
 {
     let before = bench.link;
     let called = headunit::call(before, pool, bytes, out, offer());

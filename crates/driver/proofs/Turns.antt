@@ -16,7 +16,8 @@ use Rattle.link.specs.declared.Link.{Link}
 use Rattle.link.specs.declared.Grant.{Grant}
 use Rattle.link.specs.declared.Answer.{Answer}
 use Rattle.link.specs.declared.Answer.the-variants as answer
-use Rattle.link.specs.Call.{After, callOf}
+use Rattle.link.specs.Call.{callOf}
+use Rattle.link.specs.Values.{valuesOf, Outcome, outcomeOf}
 use Rattle.headunit.specs.declared.Created.{Created}
 use Rattle.headunit.specs.Unit.{creationOf}
 use Rattle.driver.specs.Spelling.{Holds, withHex, letterAnd, textLine}
@@ -45,7 +46,7 @@ module _ (pool : List ℕ) (next i n : ℕ) (all : length pool ≡ n) where
       rw (z, append-nil) (take-all i pool (omega arith))
 
 -- the text of an answer, by its cases
-pub answer-held : {a b : Answer} {r : Text} → a ≡ b → Holds (answerLine b) r → Holds (answerLine a) r
+pub answer-held : {a b : Answer} {r : Text} → a ≡ b → Holds (answerLine (valuesOf b)) r → Holds (answerLine (valuesOf a)) r
 answer-held e h = rw e h
 
 -- three answers are replies; n and k are what they bind
@@ -53,13 +54,13 @@ module _ {r : Text} {n k m l : ℕ} (h : Holds (withHex (letterAnd 87 n) k) r) (
   reply-held : Holds (withHex (letterAnd 87 m) l) r
   reply-held = rw (← p, ← q) h
 
-  pub acked-held : {a : Answer} → a ≡ answer.Acked m l → Holds (answerLine a) r
+  pub acked-held : {a : Answer} → a ≡ answer.Acked m l → Holds (answerLine (valuesOf a)) r
   acked-held e = answer-held e reply-held
 
-  pub nacked-held : {a : Answer} → a ≡ answer.Nacked m l → Holds (answerLine a) r
+  pub nacked-held : {a : Answer} → a ≡ answer.Nacked m l → Holds (answerLine (valuesOf a)) r
   nacked-held e = answer-held e reply-held
 
-  pub beat-held : {a : Answer} → a ≡ answer.Beat m l → Holds (answerLine a) r
+  pub beat-held : {a : Answer} → a ≡ answer.Beat m l → Holds (answerLine (valuesOf a)) r
   beat-held e = answer-held e reply-held
 
 -- what `new` leaves
@@ -71,14 +72,14 @@ new-is c pool {v} {mtu} {made} {p} {w} {t} e f g h s l =
     ∙ ap (newBy pool) (g ∙ ap (λ (x : Version). creationOf x mtu) e ∙ ap (creationOf (versionOf c)) f)
 
 -- what a call leaves, spelled: its answer, the checks, the state
-pub called-is : (a : After) {w : List ℕ} {t u r : Text} → Holds (answerLine (a .answer)) t → Longer t (checksText (a .out) (a .pool)) u → Longer u (stateText (a .link)) r
-    → w ≡ textLine r (a .out) → leaving true (a .link) (a .pool) w ≡ calledBy a
-called-is a h f g l = ap (leaving true (a .link) (a .pool)) (l ∙ line-held (held-more (held-more h f) g) (a .out))
+pub called-is : (o : Outcome) {w : List ℕ} {t u r : Text} → Holds (answerLine (o .values)) t → Longer t (checksText (o .out) (o .pool)) u → Longer u (stateText (o .link)) r
+    → w ≡ textLine r (o .out) → leaving true (o .link) (o .pool) w ≡ calledBy o
+called-is o h f g l = ap (leaving true (o .link) (o .pool)) (l ∙ line-held (held-more (held-more h f) g) (o .out))
 
 -- what a call with an out buffer leaves, and one with the buffer that is lent
 module _ (l : Link) (c : Command) (input pool out : List ℕ) where
-  pub call-is : {g : Grant} {a : After} {t : Left} → g ≡ grantOf c → a ≡ callOf l pool input out g → t ≡ calledBy a → t ≡ calledOf l c input pool out
-  call-is e f h = h ∙ ap calledBy (f ∙ ap (callOf l pool input out) e)
+  pub call-is : {g : Grant} {o : Outcome} {t : Left} → g ≡ grantOf c → o ≡ outcomeOf (callOf l pool input out g) → t ≡ calledBy o → t ≡ calledOf l c input pool out
+  call-is e f h = h ∙ ap calledBy (f ∙ ap (λ (x : Grant). outcomeOf (callOf l pool input out x)) e)
 
   pub lent-call-is : {n : ℕ} {t : Left} → out ≡ untouchedOut → n ≡ min (c .lent) 131084 → t ≡ calledOf l c input pool (take (n - 0) out) → t ≡ calledOf l c input pool (lentOut c)
   lent-call-is e f h = h ∙ ap (calledOf l c input pool) (lent-front (c .lent) e f)

@@ -142,7 +142,7 @@ abbrev pub tagsText : Tags → List ℕ
 tagsText t =
     tagText (32 ∷ 104 ∷ 97 ∷ 115 ∷ 104 ∷ 61 ∷ []) (t .hash .found) (t .hash .value)
     ++ (tagText (32 ∷ 109 ∷ 116 ∷ 117 ∷ 61 ∷ []) (t .mtu .found) (t .mtu .value)
-    ++ tagText (32 ∷ 114 ∷ 101 ∷ 106 ∷ 101 ∷ 99 ∷ 116 ∷ 101 ∷ 100 ∷ 61 ∷ []) (t .rejected) 1)
+    ++ tagText (32 ∷ 114 ∷ 101 ∷ 106 ∷ 101 ∷ 99 ∷ 116 ∷ 101 ∷ 100 ∷ 61 ∷ []) (t .rejected .found) 1)
 
 abbrev pub payloadText : List ℕ → Payload → List ℕ
 payloadText input (payload.Accepted t) = versionText (t .version) input ++ tagsText t

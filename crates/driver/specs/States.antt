@@ -57,7 +57,7 @@ servicesText r = serviceText 44 0x07 (r .hash) ++ (runningText 0x0A (r .audio) +
 
 -- "id,G,C,version,next"
 abbrev pub rowNumbers : Row → List ℕ
-rowNumbers r = decimalOf (r .id .0) ++ numbersBy 44 (r .guarantee ∷ r .cap ∷ r .version ∷ r .next ∷ [])
+rowNumbers r = decimalOf (r .id .0) ++ numbersBy 44 (r .guarantee ∷ r .cap ∷ r .version ∷ r .next .0 ∷ [])
 
 -- "id,G,C,version,next,services,held,messages": row i
 abbrev pub sessionText : Row → ℕ → List ℕ → List ℕ

@@ -1,5 +1,5 @@
 -- What a whole line does: the link, the pool and the line that answers it; docs/DRIVER.md, `new` and `call`. What these calls do is `creationOf`
--- (headunit/specs/Unit) and `callOf` (link/specs/Call). Assumes nothing.
+-- (headunit/specs/Unit) and `callOf` (link/specs/Call), its answer by number and values (link/specs/Values). Assumes nothing.
 use Prim.Native.Nat.{ℕ, zero, suc, _+_, _%_}
 use mathlib.Core.Bool.{Bool, true, _&&_}
 use mathlib.Core.List.{List, [], _∷_, _++_}
@@ -13,9 +13,8 @@ use Rattle.words.specs.declared.Command.{Command}
 use Rattle.payload.specs.declared.version.Version.{Version}
 use Rattle.link.specs.declared.Link.{Link}
 use Rattle.link.specs.declared.Grant.{Grant}
-use Rattle.link.specs.declared.Answer.{Answer}
-use Rattle.link.specs.declared.Answer.the-variants as answer
-use Rattle.link.specs.Call.{After, callOf}
+use Rattle.link.specs.Call.{callOf}
+use Rattle.link.specs.Values.{Kind, short, refused, reply, silent, delivery, Values, serviceBytes, Outcome, outcomeOf}
 use Rattle.headunit.specs.declared.Created.{Created}
 use Rattle.headunit.specs.Unit.{creationOf}
 use Rattle.driver.specs.declared.calls.Unit as Units
@@ -52,7 +51,7 @@ versionOf c = record { major = byteAt c 0; minor = byteAt c 1; patch = byteAt c 
 
 -- "`ok` · `R 10`"
 abbrev pub createdText : ℕ → List ℕ
-createdText refused = pick (eqb refused 0) (111 ∷ 107 ∷ []) (refusedText refused)
+createdText number = pick (eqb number 0) (111 ∷ 107 ∷ []) (refusedText number)
 
 -- "the link and its pool are replaced"; after `R 10` there is none
 abbrev pub newBy : List ℕ → Created → Left
@@ -67,15 +66,15 @@ abbrev pub grantOf : Command → Grant
 grantOf c = record { guarantee = halfAt c 0; cap = halfAt c 1; hash = wideAt c 2 }
 
 -- "`S n` · `R n` · `W consumed HEX` (a reply) · `D consumed SERVICE HEX` (a delivery; SERVICE has two hexadecimal digits, ..) · `A consumed`"
-abbrev pub answerLine : Answer → Spelled
-answerLine (answer.Short n) = plain (letterAnd 83 n)
-answerLine (answer.Refused n) = plain (refusedText n)
-answerLine (answer.Acked consumed size) = withHex (letterAnd 87 consumed) size
-answerLine (answer.Nacked consumed size) = withHex (letterAnd 87 consumed) size
-answerLine (answer.Beat consumed size) = withHex (letterAnd 87 consumed) size
-answerLine (answer.Accepted consumed) = plain (letterAnd 65 consumed)
-answerLine (answer.Delivered consumed service size) =
-    withHex (letterAnd 68 consumed ++ ((32 ∷ []) ++ hexOf (service .0 ∷ []))) size
+abbrev pub answerBy : Kind → Values → Spelled
+answerBy short v = plain (letterAnd 83 (v .needed))
+answerBy refused v = plain (refusedText (v .refusal))
+answerBy (reply r) v = withHex (letterAnd 87 (v .consumed)) (v .written)
+answerBy silent v = plain (letterAnd 65 (v .consumed))
+answerBy delivery v = withHex (letterAnd 68 (v .consumed) ++ ((32 ∷ []) ++ hexOf (serviceBytes (v .service)))) (v .written)
+
+abbrev pub answerLine : Values → Spelled
+answerLine v = answerBy (v .kind) v
 
 -- " out=CHECK pool=CHECK "
 abbrev pub checksText : List ℕ → List ℕ → List ℕ
@@ -84,14 +83,14 @@ checksText out pool =
     ++ (decimalOf (checkOf out) ++ ((32 ∷ 112 ∷ 111 ∷ 111 ∷ 108 ∷ 61 ∷ []) ++ (decimalOf (checkOf pool) ++ 32 ∷ [])))
 
 -- "ANSWER out=CHECK pool=CHECK STATE"
-abbrev pub calledLine : After → Spelled
-calledLine a = behind (behind (answerLine (a .answer)) (checksText (a .out) (a .pool))) (stateText (a .link))
+abbrev pub calledLine : Outcome → Spelled
+calledLine o = behind (behind (answerLine (o .values)) (checksText (o .out) (o .pool))) (stateText (o .link))
 
-abbrev pub calledBy : After → Left
-calledBy a = leaving true (a .link) (a .pool) (lineOf (calledLine a) (a .out))
+abbrev pub calledBy : Outcome → Left
+calledBy o = leaving true (o .link) (o .pool) (lineOf (calledLine o) (o .out))
 
 abbrev pub calledOf : Link → Command → List ℕ → List ℕ → List ℕ → Left
-calledOf l c input pool out = calledBy (callOf l pool input out (grantOf c))
+calledOf l c input pool out = calledBy (outcomeOf (callOf l pool input out (grantOf c)))
 
 -- ---- any line: "`call` is answered `?` where there is no link"
 unfoldable pub turnOf : Units.Unit → Command → List ℕ → List ℕ → Left

@@ -4,6 +4,7 @@ ghost use mathlib.Core.Path.{_≡_};
 ghost use mathlib.Core.Bool.{false};
 ghost use Rattle.text.specs.Said.{Started, Longer};
 ghost use Rattle.link.specs.declared.Answer.the-variants.{Delivered};
+ghost use Rattle.link.specs.Values.{valuesOf, outcomeOf};
 ghost use Rattle.headunit.specs.Unit.{leaves};
 ghost use Rattle.driver.specs.Spelling.{Holds, withHex, letterAnd};
 ghost use Rattle.driver.specs.Answers.{lentOut};
@@ -109,7 +110,7 @@ fn reply_text(consumed: usize, size: usize) -> Text
 }
 
 fn delivery_text(consumed: usize, service: ServiceType, size: usize) -> Text
-    ensures { λ r. ⌜ Holds (answerLine (Delivered consumed service size)) r ⌝ }
+    ensures { λ r. ⌜ Holds (answerLine (valuesOf (Delivered consumed service size))) r ⌝ }
 {
     Text::answer(b'D', consumed)
         .byte(b' ')
@@ -118,7 +119,7 @@ fn delivery_text(consumed: usize, service: ServiceType, size: usize) -> Text
 }
 
 fn answer_text(answer: Answer) -> Text
-    ensures { λ r. ⌜ Holds (answerLine answer) r ⌝ }
+    ensures { λ r. ⌜ Holds (answerLine (valuesOf answer)) r ⌝ }
 {
     match answer {
         Answer::Short(needed) => Text::answer(b'S', needed),
@@ -141,7 +142,7 @@ fn with_checks(text: Text, out: &[u8], pool: &[u8]) -> Text
 
 // Spells what a call left: answer, out, pool, state.
 fn spell_called(called: Called, out: &[u8], pool: &[u8], line: &mut [u8; ROOM]) -> Turn
-    ensures { λ r. ⌜ left r (now (pool .entry)) (now (line .exit)) ≡ calledBy (leaves called (now (pool .entry)) (now (out .entry))) ⌝ }
+    ensures { λ r. ⌜ left r (now (pool .entry)) (now (line .exit)) ≡ calledBy (outcomeOf (leaves called (now (pool .entry)) (now (out .entry)))) ⌝ }
 {
     let answer = called.answer;
     let link = called.link;

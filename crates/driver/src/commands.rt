@@ -141,9 +141,10 @@ fn with_tags(text: Text, tags: Tags) -> Text
 {
     let hash = tags.hash;
     let mtu = tags.mtu;
+    let rejected = tags.rejected;
     let mut after = with_tag(text, b" hash=", hash.found, hash.value as u64);
     after = with_tag(after, b" mtu=", mtu.found, mtu.value);
-    with_tag(after, b" rejected=", tags.rejected, 1)
+    with_tag(after, b" rejected=", rejected.found, 1)
 }
 
 // payload HEX

@@ -8,6 +8,7 @@ ghost use Rattle.numbers.specs.Bytes.{pick};
 ghost use Rattle.text.specs.Said.{Longer};
 ghost use Rattle.link.specs.State.{indexOf};
 ghost use Rattle.driver.specs.States.{blocksText, countsText, messageText, messagesText, serviceText, runningText, servicesText, rowNumbers, sessionText, stateText};
+use frame::SessionId;
 use link::Link;
 use session::Reassembly;
 use session::Row;
@@ -122,7 +123,7 @@ fn with_numbers(text: Text, row: Row) -> Text
     after = after.number32(b',', row.guarantee as u32);
     after = after.number32(b',', row.cap as u32);
     after = after.number8(b',', row.version);
-    after.number32(b',', row.next)
+    after.number32(b',', row.next.0)
 }
 
 // Row i in a list that begins at `start`: id,G,C,version,next,services,held,messages
@@ -137,12 +138,12 @@ fn with_session(text: Text, start: usize, row: Row, i: usize, owners: [u8; 256])
 }
 
 // The row with an id; 8 if there is none.
-fn row_of(rows: [Row; 8], id: u8) -> usize
-    ensures { λ r. ⌜ r ≡ indexOf id rows ⌝ }
+fn row_of(rows: [Row; 8], id: SessionId) -> usize
+    ensures { λ r. ⌜ r ≡ indexOf (id .0) rows ⌝ }
 {
     let mut i: usize = 0;
     while i < 8 {
-        if rows[i].id.0 == id {
+        if rows[i].id.0 == id.0 {
             return i;
         }
         i += 1;
@@ -161,7 +162,7 @@ pub fn with_sessions(text: Text, link: Link) -> Text
     let mut id: u8 = 0;
     while id < 255 {
         id += 1;
-        let i = row_of(rows, id);
+        let i = row_of(rows, SessionId(id));
         if i < 8 {
             after = with_session(after, start, rows[i], i, owners);
         }

@@ -3,12 +3,12 @@
 use Prim.Native.Nat.{ℕ, _+_, _-_, _≤_, _<_, max, min}
 use mathlib.Core.Path.{_≡_, refl, ap, _∙_, sym, subst}
 use mathlib.Core.Bool.{Bool, true, false, _&&_, _||_, not}
-use lib.Dec.{eqb, leb}
+use lib.Dec.{eqb, leb, ltb}
 use mathlib.Core.List.{List, [], _++_, append-nil}
 use native.Mathlib.Omega.{arith}
 use lib.ListN.{length, getD, take, drop, drop-of-length-le}
 use lib.Seq.{take-at}
-use borrow.Author.Tests.{le-leb, leb-true, lt-ltb, eq-eqb, eqb-true, eqb-false, ne-eqb}
+use borrow.Author.Tests.{le-leb, leb-true, lt-ltb, ltb-false, eq-eqb, eqb-true, eqb-false, ne-eqb}
 use borrow.Rule.Slice.PartMut.{putMid}
 use Rattle.numbers.specs.Bytes.{unless, part, laid, putAt}
 use Rattle.numbers.specs.Numbers.{bytesBe}
@@ -16,6 +16,7 @@ use Rattle.numbers.proofs.Laws.{put-fits}
 use Rattle.numbers.proofs.Choices.{and-both, either, unless-elim}
 use Rattle.frame.specs.declared.ServiceType.{ServiceType}
 use Rattle.frame.specs.declared.SessionId.{SessionId}
+use Rattle.frame.specs.declared.MessageId.{MessageId}
 use Rattle.frame.specs.declared.Header.{Header}
 use Rattle.frame.specs.declared.Written.{Written}
 use Rattle.frame.specs.declared.Written.the-variants as written
@@ -32,6 +33,8 @@ use Rattle.payload.specs.declared.append.Written as Payload
 use Rattle.payload.specs.declared.append.Written.the-variants as payload
 use Rattle.payload.specs.Append as payloads
 use Rattle.payload.specs.declared.Tags.{Tags}
+use Rattle.payload.specs.declared.Payload as Bson
+use Rattle.payload.specs.declared.Payload.the-variants as bson
 use Rattle.payload.specs.declared.Payload.the-variants.{Accepted}
 use Rattle.payload.specs.Walk.{payloadOf}
 use Rattle.payload.proofs.TopLevel.{AcceptedHolds, VersionInside, version-inside}
@@ -39,9 +42,12 @@ use Rattle.payload.specs.declared.reply.Parameter.{Parameter}
 use Rattle.payload.specs.declared.reply.Parameter.the-variants as parameter
 use Rattle.payload.specs.Tags.{protocolVersion, hashId}
 use Rattle.payload.specs.declared.version.Version.{Version}
-use Rattle.payload.specs.Version.{lesserOf}
+use Rattle.payload.specs.declared.version.VersionText.{VersionText}
+use Rattle.payload.specs.declared.version.VersionText.the-variants as text
+use Rattle.payload.specs.Version.{versionOf, lesserOf, sayingOf}
 use Rattle.payload.specs.Reply.{serviceAckPayload, nakPayload, nameOf}
 use Rattle.payload.proofs.Replies.{length-nak}
+use Rattle.payload.proofs.Appends.{in-range-put}
 use Rattle.session.specs.declared.Reassembly.{Reassembly}
 use Rattle.session.specs.declared.Row.{Row}
 use Rattle.session.specs.declared.Said.{Said}
@@ -53,10 +59,9 @@ use Rattle.session.specs.Decide.{placeOf, needOf, heldOf, firstOf, dueNumber, s
 use Rattle.link.specs.declared.Link.{Link}
 use Rattle.link.specs.declared.Grant.{Grant}
 use Rattle.link.specs.declared.Answer.the-variants as answer
-use Rattle.link.specs.State.{indexOf, lowestFree, versionAllowed, rowFits, rulesHold, settingsFit, grantFits, guardOf, withRow}
-use Rattle.link.specs.Call.{After, wishOf, opens, opened, openingBy, saidOf, decisionOf, applied, frameOf, callOf}
-use Rattle.link.proofs.Shown.{rules-say}
-use Rattle.link.proofs.Holdings.{row-fits-at, row-rules}
+use Rattle.link.specs.State.{indexOf, newId, versionAllowed, rowFits, rulesHold, settingsFit, grantFits, guardOf, withRow}
+use Rattle.link.specs.Call.{After, Wish, old, new, bad, wishOfText, wishOfPayload, wishOf, opens, opened, openingBy, saidOf, decisionOf, applied, frameOf, callOf}
+use Rattle.link.proofs.Guards.{guard-version}
 use Rattle.link.proofs.Table.{index-row}
 use Rattle.link.specs.Reply.{replyHeader, replyBytes, newAck, grantedPayload}
 use Rattle.link.proofs.Replies.{reply-sound}
@@ -72,7 +77,7 @@ pub put-sent : (bytes o : List ℕ) → length bytes ≤ length o → sentBy (pu
 put-sent bytes o h = ap (λ (b : Bool). sentBy (unless b (wrote (written.Refused 11) o) (wrote (written.Bytes (length bytes)) (laid bytes o)))) (le-leb (length bytes) (length o) h)
 
 -- a reply with room is written whole
-pub reply-sent : (v : ℕ) (service : ServiceType) (info session message : ℕ) (p o : List ℕ) → 128 ≤ length o → 1 ≤ v → v ≤ 5
+pub reply-sent : (v : ℕ) (service : ServiceType) (info : ℕ) (session : SessionId) (message : MessageId) (p o : List ℕ) → 128 ≤ length o → 1 ≤ v → v ≤ 5
     → listedService service ≡ true → infoFits 0 info ≡ true → length p ≤ 116
     → sentBy (writeOf (replyHeader v service info session (length p) message) p o) ≡ sentOf (replyBytes v service info session message p) o
 reply-sent v service info session message p o room least most listed fits short =
@@ -97,6 +102,11 @@ payload-front {w = w} {q = q} bytes o h e f =
     let g : payloads.wrote w q ≡ payloads.wrote (payload.Bytes (length bytes)) (laid bytes o)
     = f ∙ ap (λ (b : Bool). unless b (payloads.wrote (payload.Refused 11) o) (payloads.wrote (payload.Bytes (length bytes)) (laid bytes o))) (le-leb (length bytes) (length o) h) in
     (e ∙ ap (λ (x : payloads.Wrote). payloadCountOf (x .answer)) g, ap (λ (x : payloads.Wrote). x .out) g)
+
+-- and of one whose bytes say a version that can be read
+pub said-front : {n : ℕ} {w : Payload.Written} {q : List ℕ} (v : Version) (bytes o : List ℕ) → 1 ≤ v .major → length bytes ≤ length o → n ≡ payloadCountOf w
+    → payloads.wrote w q ≡ sayingOf v bytes o → (n ≡ length bytes) × (q ≡ laid bytes o)
+said-front v bytes o one h e f = payload-front bytes o h e (f ∙ sym (in-range-put v bytes o one))
 
 -- four bytes put into four
 pub raw-put : {q : List ℕ} (z b : List ℕ) → length z ≡ 4 → length b ≡ 4 → q ≡ putAt z 0 4 b → q ≡ b
@@ -184,55 +194,24 @@ decision-roomy l i h payload room e =
     either Q (eqb (h .kind) 2) _ _ (λ _. first-roomy room (length payload) total r _ h _ _)
     (λ _. next-roomy room (length payload) total (messageAt r (placeOf (h .service .0))) h refl)
 
--- 10 leaves settings in range
-pub guard-major : (l : Link) (n : ℕ) (g : Grant) → guardOf l n g ≡ true → (1 ≤ l .version .major) × (l .version .major ≤ 5)
-unfolding guardOf settingsFit
-guard-major l n g e =
-    let a = and-both (eqb n 65536) _ e in
-    let b = and-both (settingsFit (l .version) (l .mtu)) _ (a .1) in
-    let c = and-both (leb 1 (l .version .major)) _ (b .0) in
-    let d = and-both (leb (l .version .major) 5) _ (c .1) in
-    (leb-true 1 (l .version .major) (c .0), leb-true (l .version .major) 5 (d .0))
-
--- and an open row's version is one that replies may carry
-pub guard-version : (l : Link) (n : ℕ) (g : Grant) (i : ℕ) → guardOf l n g ≡ true → i < length (l .rows) → (getD (l .rows) i noRow .id .0 ≡ 0 → ⊥)
-    → (1 ≤ replyVersion (l .version .major) (getD (l .rows) i noRow)) × (replyVersion (l .version .major) (getD (l .rows) i noRow) ≤ 5)
-unfolding guardOf replyVersion versionAllowed
-guard-version l n g i e h z =
-    let a = and-both (eqb n 65536) _ e in
-    let b = and-both (settingsFit (l .version) (l .mtu)) _ (a .1) in
-    let c = and-both (grantFits g) (rulesHold l) (b .1) in
-    let r : Row = getD (l .rows) i noRow in
-    let m = guard-major l n g e in
-    let t : rowFits (l .version .major) (l .owners) i r ≡ true = row-fits-at (l .version .major) (l .owners) (l .rows) i (rules-say l (c .1) .rows) h in
-    let allowed = row-rules (l .version .major) i (l .owners) r t z .version in
-    let most : r .version ≤ 5 = or-most (leb (r .version) (min (l .version .major) 4)) (eqb (l .version .major) 5 && eqb (r .version) 5) allowed
-    (λ s. omega (arith, leb-true (r .version) (min (l .version .major) 4) s)) (λ s. omega (arith, eqb-true (r .version) 5 (and-both (eqb (l .version .major) 5) (eqb (r .version) 5) s .1))) in
-    either (λ (v : ℕ). (1 ≤ v) × (v ≤ 5)) (eqb (r .version) 0) (min (l .version .major) 4) (r .version)
-    (λ s. (omega (arith, m .0), omega arith)) (λ s. let d : r .version ≡ 0 → ⊥ = eqb-false (r .version) 0 s in (omega arith, most))
-  where
-    or-most : {X : Type 0} (a b : Bool) → a || b ≡ true → (a ≡ true → X) → (b ≡ true → X) → X
-    or-most true b q f k = f refl
-    or-most false b q f k = k q
-
 -- the link with a session opened
-pub opened-link : (l : Link) (i : ℕ) (id : SessionId) (r : Row) (q : Link) (g : Grant) (v w : ℕ) → i ≡ indexOf 0 (l .rows) → id .0 ≡ lowestFree 255 1 (l .rows) → v ≡ w
+pub opened-link : (l : Link) (i : ℕ) (id : SessionId) (r : Row) (q : Link) (g : Grant) (v w : ℕ) → i ≡ indexOf 0 (l .rows) → id ≡ newId (l .rows) → v ≡ w
     → r ≡ openedRow id (g .guarantee) (g .cap) v (g .hash) → q ≡ withRow l i r
-    → q ≡ withRow l (indexOf 0 (l .rows)) (openedRow (record { 0 = lowestFree 255 1 (l .rows) }) (g .guarantee) (g .cap) w (g .hash))
+    → q ≡ withRow l (indexOf 0 (l .rows)) (openedRow (newId (l .rows)) (g .guarantee) (g .cap) w (g .hash))
 opened-link l i id r q g v w e f k m n =
     n
-    ∙ ap (λ (x : Row). withRow l i x) (m ∙ ap (λ (x : ℕ). openedRow id (g .guarantee) (g .cap) x (g .hash)) k ∙ ap (λ (x : ℕ). openedRow (record { 0 = x }) (g .guarantee) (g .cap) w (g .hash)) f)
-    ∙ ap (λ (x : ℕ). withRow l x (openedRow (record { 0 = lowestFree 255 1 (l .rows) }) (g .guarantee) (g .cap) w (g .hash))) e
+    ∙ ap (λ (x : Row). withRow l i x) (m ∙ ap (λ (x : ℕ). openedRow id (g .guarantee) (g .cap) x (g .hash)) k ∙ ap (λ (x : SessionId). openedRow x (g .guarantee) (g .cap) w (g .hash)) f)
+    ∙ ap (λ (x : ℕ). withRow l x (openedRow (newId (l .rows)) (g .guarantee) (g .cap) w (g .hash))) e
 
 -- the same with its ACK in version 5: n bytes of out are written, o′ is out after it
 pub new-opened : (l : Link) (i consumed : ℕ) (g : Grant) (wish v : Version) (id : SessionId) (r : Row) (q : Link) (n : ℕ) (o o′ p : List ℕ) → i ≡ indexOf 0 (l .rows)
-    → id .0 ≡ lowestFree 255 1 (l .rows) → v ≡ lesserOf (l .version) wish → r ≡ openedRow id (g .guarantee) (g .cap) 5 (g .hash) → q ≡ withRow l i r
-    → sent n o′ ≡ sentOf (newAck (id .0) (g .hash) (l .mtu) v) o
-    → repliedWith answer.Acked consumed q p (sent n o′) ≡ opened l p o consumed g 5 (newAck (lowestFree 255 1 (l .rows)) (g .hash) (l .mtu) (lesserOf (l .version) wish))
+    → id ≡ newId (l .rows) → v ≡ lesserOf (l .version) wish → r ≡ openedRow id (g .guarantee) (g .cap) 5 (g .hash) → q ≡ withRow l i r
+    → sent n o′ ≡ sentOf (newAck id (g .hash) (l .mtu) v) o
+    → repliedWith answer.Acked consumed q p (sent n o′) ≡ opened l p o consumed g 5 (newAck (newId (l .rows)) (g .hash) (l .mtu) (lesserOf (l .version) wish))
 new-opened l i consumed g wish v id r q n o o′ p at lowest settled row link written =
-    let ack : ℕ → Version → Sent = λ k x. sentOf (newAck k (g .hash) (l .mtu) x) o in
-    ap (repliedWith answer.Acked consumed q p) (written ∙ ap (λ (x : Version). ack (id .0) x) settled ∙ ap (λ (k : ℕ). ack k (lesserOf (l .version) wish)) lowest)
-    ∙ ap (λ (x : Link). repliedWith answer.Acked consumed x p (ack (lowestFree 255 1 (l .rows)) (lesserOf (l .version) wish))) (opened-link l i id r q g 5 5 at lowest refl row link)
+    let ack : SessionId → Version → Sent = λ k x. sentOf (newAck k (g .hash) (l .mtu) x) o in
+    ap (repliedWith answer.Acked consumed q p) (written ∙ ap (λ (x : Version). ack id x) settled ∙ ap (λ (k : SessionId). ack k (lesserOf (l .version) wish)) lowest)
+    ∙ ap (λ (x : Link). repliedWith answer.Acked consumed x p (ack (newId (l .rows)) (lesserOf (l .version) wish))) (opened-link l i id r q g 5 5 at lowest refl row link)
 
 -- Short tells what the reader needs
 pub short-is : (l : Link) (p s o : List ℕ) (g : Grant) (needed : ℕ) → guardOf l (length p) g ≡ true → readOf s ≡ reading.Short needed

@@ -10,6 +10,7 @@ use lib.ListN.{length, take}
 use Rattle.numbers.specs.Bytes.{pick, unless, part, laid}
 use Rattle.numbers.specs.Numbers.{valueBe}
 use Rattle.frame.specs.declared.Header.{Header}
+use Rattle.frame.specs.declared.MessageId.{MessageId}
 use Rattle.frame.specs.declared.ServiceType.{ServiceType}
 use Rattle.frame.specs.Rules.{listedService}
 use Rattle.payload.specs.Tags.{hashId}
@@ -19,6 +20,7 @@ use Rattle.blocks.specs.Pool.{blockBytes, appended}
 use Rattle.session.specs.declared.Row.{Row}
 use Rattle.session.specs.declared.Act.{Act}
 use Rattle.session.specs.declared.Act.the-variants.{Refuse, Drop, Accept, Beat, Start, NoStart, Stop, Close, NoEnd, Claim, Append, Deliver, Single}
+use Rattle.session.specs.Rows.{noMessageId}
 use Rattle.session.specs.Rules.{replyVersion, barredBy}
 use Rattle.session.specs.Decide.{needOf, controlOf, contentOf}
 use Rattle.link.specs.declared.Answer.{Answer}
@@ -72,8 +74,8 @@ module _ (k : Case) (os payload p o : List ℕ) where
   abbrev fedPool : List ℕ
   fedPool = appended (k .mine .0) (k .message .total - k .message .missing) payload os p
 
-  abbrev reply : ℕ → ℕ → List ℕ → List ℕ
-  reply info message bytes = replyBytes (k .from .version) (k .from .service) info (k .from .session .0) message bytes
+  abbrev reply : ℕ → MessageId → List ℕ → List ℕ
+  reply info message bytes = replyBytes (k .from .version) (k .from .service) info (k .from .session) message bytes
 
   abbrev replied : (ℕ → ℕ → Answer) → List ℕ → Told
   replied kind bytes = told (kind (k .consumed) (length bytes)) p (laid bytes o)
@@ -82,12 +84,12 @@ module _ (k : Case) (os payload p o : List ℕ) where
   toldOf (Refuse n) = told (answer.Refused n) p o
   toldOf (Drop n) = told (answer.Refused n) p o
   toldOf Accept = told (answer.Accepted (k .consumed)) p o
-  toldOf Beat = replied answer.Beat (reply beatAck 0 [])
+  toldOf Beat = replied answer.Beat (reply beatAck noMessageId [])
   toldOf Start = replied answer.Acked (reply startAck (k .row .next) (grantedPayload (k .row .version) (k .hash) (k .mtu)))
-  toldOf NoStart = replied answer.Nacked (reply startNak 0 [])
+  toldOf NoStart = replied answer.Nacked (reply startNak noMessageId [])
   toldOf Stop = replied answer.Acked (reply endAck (k .row .next) [])
   toldOf Close = replied answer.Acked (reply endAck (k .row .next) [])
-  toldOf (NoEnd named) = replied answer.Nacked (reply endNak 0 (pick named (nakPayload hashId) []))
+  toldOf (NoEnd named) = replied answer.Nacked (reply endNak noMessageId (pick named (nakPayload hashId) []))
   toldOf (Claim total count) = told (answer.Accepted (k .consumed)) p o
   toldOf Append = told (answer.Accepted (k .consumed)) fedPool o
   toldOf Deliver =

@@ -1,5 +1,5 @@
 -- What creation and a call leave, as the code answers it, and the small definitions of its inner functions. The call itself is `callOf`
--- (link/specs/Call), creation `createdLink` (link/specs/State).
+-- (link/specs/Call), its answer's number and values are `outcomeOf` (link/specs/Values), creation is `createdLink` (link/specs/State).
 -- Assumes nothing.
 use Prim.Native.Nat.{ℕ, _≤_, _<_}
 use mathlib.Core.Path.{_≡_}

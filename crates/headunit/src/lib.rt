@@ -17,15 +17,17 @@ ghost use Rattle.blocks.specs.Pool.{blockBytes, appended};
 ghost use Rattle.session.specs.Decide.{shareOf};
 ghost use Rattle.link.specs.declared.Grant.{Grant as Offer};
 ghost use Rattle.link.specs.declared.Link.{Link as State};
-ghost use Rattle.link.specs.State.{indexOf, ownerOf, sharesIn, guardOf, withRow, lowestFree};
+ghost use Rattle.link.specs.State.{indexOf, ownerOf, sharesIn, guardOf, withRow, newId};
 ghost use Rattle.link.specs.Reply.{oldAck, newAck};
 ghost use Rattle.link.specs.Call.{old, new, wishOfText, wishOf, opens, admits, oldVersion, notOpened, opened, openingBy, saidOf, decisionOf, applied, frameOf, callOf};
+ghost use Rattle.link.specs.Values.{outcomeOf};
 ghost use Rattle.rules.specs.Parts.{Surveyed};
 ghost use Rattle.headunit.specs.Unit.{creationOf, leaves, wishFrom, Serves};
 ghost use Rattle.headunit.specs.Steps.{decisionBy, ownersAfter, fromRow, told, toldOf, Repliable, Roomy};
 use blocks::Owner;
 use frame::Extent;
 use frame::Header;
+use frame::MessageId;
 use frame::Reading;
 use frame::ServiceType;
 use frame::SessionId;
@@ -226,13 +228,13 @@ fn tell(
         Act::Refuse(number) => Answer::Refused(number),
         Act::Drop(number) => Answer::Refused(number),
         Act::Accept => Answer::Accepted(consumed),
-        Act::Beat => Answer::Beat(consumed, put_empty(from, BEAT_ACK, 0, out)),
+        Act::Beat => Answer::Beat(consumed, put_empty(from, BEAT_ACK, MessageId(0), out)),
         Act::Start => {
             let version = case.row.version;
             let size = replies::put_started(from, version, next, case.hash, case.mtu, out);
             Answer::Acked(consumed, size)
         }
-        Act::NoStart => Answer::Nacked(consumed, put_empty(from, START_NAK, 0, out)),
+        Act::NoStart => Answer::Nacked(consumed, put_empty(from, START_NAK, MessageId(0), out)),
         Act::Stop => Answer::Acked(consumed, put_empty(from, END_ACK, next, out)),
         Act::Close => Answer::Acked(consumed, put_empty(from, END_ACK, next, out)),
         Act::NoEnd(named) => Answer::Nacked(consumed, replies::put_not_ended(from, named, out)),
@@ -384,7 +386,7 @@ fn not_admitted(link: Link, consumed: usize, out: &mut [u8]) -> Called
         service: ServiceType(7),
         session: SessionId(0),
     };
-    let size = put_empty(from, START_NAK, 0, out);
+    let size = put_empty(from, START_NAK, MessageId(0), out);
     Called {
         answer: Answer::Nacked(consumed, size),
         link: link,
@@ -407,8 +409,8 @@ fn opened_old(
     grant: Grant,
     out: &mut [u8],
 ) -> Called
-    requires { ⌜ (i < 8) × ((i ≡ indexOf 0 (link .rows)) × ((128 ≤ length (now out)) × ((1 ≤ link .version .major) × (id .0 ≡ lowestFree 255 1 (link .rows))))) ⌝ }
-    ensures { λ r. ⌜ ((p : List ℕ) → leaves r p (now (out .exit)) ≡ opened link p (now (out .entry)) consumed grant (oldVersion (link .version .major)) (oldAck (link .version .major) (lowestFree 255 1 (link .rows)) (grant .hash))) ⌝ }
+    requires { ⌜ (i < 8) × ((i ≡ indexOf 0 (link .rows)) × ((128 ≤ length (now out)) × ((1 ≤ link .version .major) × (id ≡ newId (link .rows))))) ⌝ }
+    ensures { λ r. ⌜ ((p : List ℕ) → leaves r p (now (out .exit)) ≡ opened link p (now (out .entry)) consumed grant (oldVersion (link .version .major)) (oldAck (link .version .major) (newId (link .rows)) (grant .hash))) ⌝ }
 {
     let row = Row::opened(
         id,
@@ -422,7 +424,7 @@ fn opened_old(
         service: ServiceType(7),
         session: id,
     };
-    let size = replies::put_hash(from, 1, grant.hash, out);
+    let size = replies::put_hash(from, MessageId(1), grant.hash, out);
     Called {
         answer: Answer::Acked(consumed, size),
         link: with_row(link, i, row),
@@ -439,8 +441,8 @@ fn opened_new(
     wish: Version,
     out: &mut [u8],
 ) -> Called
-    requires { ⌜ (i < 8) × ((i ≡ indexOf 0 (link .rows)) × ((128 ≤ length (now out)) × (id .0 ≡ lowestFree 255 1 (link .rows)))) ⌝ }
-    ensures { λ r. ⌜ ((p : List ℕ) → leaves r p (now (out .exit)) ≡ opened link p (now (out .entry)) consumed grant 5 (newAck (lowestFree 255 1 (link .rows)) (grant .hash) (link .mtu) (lesserOf (link .version) wish))) ⌝ }
+    requires { ⌜ (i < 8) × ((i ≡ indexOf 0 (link .rows)) × ((128 ≤ length (now out)) × ((id ≡ newId (link .rows)) × ((1 ≤ link .version .major) × (1 ≤ wish .major))))) ⌝ }
+    ensures { λ r. ⌜ ((p : List ℕ) → leaves r p (now (out .exit)) ≡ opened link p (now (out .entry)) consumed grant 5 (newAck (newId (link .rows)) (grant .hash) (link .mtu) (lesserOf (link .version) wish))) ⌝ }
 {
     let row = Row::opened(id, grant.guarantee, grant.cap, 5, grant.hash);
     let own = link.version;
@@ -474,7 +476,7 @@ fn open_new(
     wish: Version,
     out: &mut [u8],
 ) -> Called
-    requires { ⌜ (128 ≤ length (now out)) × ((1 ≤ link .version .major) × Surveyed link seen) ⌝ }
+    requires { ⌜ (128 ≤ length (now out)) × ((1 ≤ link .version .major) × ((1 ≤ wish .major) × Surveyed link seen)) ⌝ }
     ensures { λ r. ⌜ ((p : List ℕ) → leaves r p (now (out .exit)) ≡ openingBy link p (now (out .entry)) consumed grant (new wish)) ⌝ }
 {
     if !is_admitted(seen, grant) {
@@ -597,9 +599,10 @@ fn take(
     }
 }
 
-// The call: the frame at the front of the input is answered, and what follows it is not looked at.
+// The call: the frame at the front of the input is answered, and what follows it is not looked at. The contract tells the answer by document 01's number and
+// values; it fixes the answer itself (`outcome-tells`, link/proofs/Values).
 pub fn call(link: Link, pool: &mut [u8], input: &[u8], out: &mut [u8], grant: Grant) -> Called
-    ensures { λ r. ⌜ leaves r (now (pool .exit)) (now (out .exit)) ≡ callOf link (now (pool .entry)) (now (input .entry)) (now (out .entry)) grant ⌝ }
+    ensures { λ r. ⌜ outcomeOf (leaves r (now (pool .exit)) (now (out .exit))) ≡ outcomeOf (callOf link (now (pool .entry)) (now (input .entry)) (now (out .entry)) grant) ⌝ }
 {
     let seen = rules::survey(link, pool.len(), grant);
     if !seen.fit {

@@ -1,5 +1,6 @@
 // The replies, written to the front of out. Document 01, "Opening" and "In a session". Each function gives the bytes written.
-// The callers see to it that out has 128 bytes and that version and service are ones that a frame may have; no reply is longer than 75 bytes.
+// The callers see to it that out has 128 bytes and that version and service are ones that a frame may have, and a version's major is at least 1; no reply is
+// longer than 75 bytes.
 ghost use mathlib.Core.Path.{_≡_};
 ghost use mathlib.Core.Bool.{true};
 ghost use mathlib.Core.List.{[]};
@@ -10,6 +11,7 @@ ghost use Rattle.numbers.specs.Numbers.{bytesBe};
 ghost use Rattle.frame.specs.Rules.{listedService, infoFits};
 ghost use Rattle.payload.specs.Tags.{hashId};
 ghost use Rattle.payload.specs.Reply.{serviceAckPayload, nakPayload, nameOf};
+ghost use Rattle.session.specs.Rows.{noMessageId};
 ghost use Rattle.link.specs.Reply.{replyBytes, startAck, endNak, newAck, grantedPayload};
 ghost use Rattle.headunit.specs.Unit.{sent, sentOf, countOf, payloadCountOf};
 use frame::Header;
@@ -58,9 +60,9 @@ pub(crate) struct From {
 }
 
 // A reply with this payload.
-pub(crate) fn put(from: From, info: u8, message: u32, payload: &[u8], out: &mut [u8]) -> usize
+pub(crate) fn put(from: From, info: u8, message: MessageId, payload: &[u8], out: &mut [u8]) -> usize
     requires { ⌜ (128 ≤ length (now out)) × ((1 ≤ from .version) × ((from .version ≤ 5) × ((listedService (from .service) ≡ true) × ((infoFits 0 info ≡ true) × (length (now payload) ≤ 116))))) ⌝ }
-    ensures { λ r. ⌜ sent r (now (out .exit)) ≡ sentOf (replyBytes (from .version) (from .service) info (from .session .0) message (now (payload .entry))) (now (out .entry)) ⌝ }
+    ensures { λ r. ⌜ sent r (now (out .exit)) ≡ sentOf (replyBytes (from .version) (from .service) info (from .session) message (now (payload .entry))) (now (out .entry)) ⌝ }
 {
     let service = from.service;
     let session = from.session;
@@ -72,24 +74,24 @@ pub(crate) fn put(from: From, info: u8, message: u32, payload: &[u8], out: &mut 
         info: info,
         session: session,
         size: payload.len() as u32,
-        message: MessageId(message),
+        message: message,
     };
     count(frame::write(header, payload, out))
 }
 
 // A reply of data size 0.
-pub(crate) fn put_empty(from: From, info: u8, message: u32, out: &mut [u8]) -> usize
+pub(crate) fn put_empty(from: From, info: u8, message: MessageId, out: &mut [u8]) -> usize
     requires { ⌜ (128 ≤ length (now out)) × ((1 ≤ from .version) × ((from .version ≤ 5) × ((listedService (from .service) ≡ true) × (infoFits 0 info ≡ true)))) ⌝ }
-    ensures { λ r. ⌜ sent r (now (out .exit)) ≡ sentOf (replyBytes (from .version) (from .service) info (from .session .0) message []) (now (out .entry)) ⌝ }
+    ensures { λ r. ⌜ sent r (now (out .exit)) ≡ sentOf (replyBytes (from .version) (from .service) info (from .session) message []) (now (out .entry)) ⌝ }
 {
     let none = [0u8; 1];
     put(from, info, message, &none[0..0], out)
 }
 
 // A Start's ACK below version 5: the raw hash.
-pub(crate) fn put_hash(from: From, message: u32, hash: u32, out: &mut [u8]) -> usize
+pub(crate) fn put_hash(from: From, message: MessageId, hash: u32, out: &mut [u8]) -> usize
     requires { ⌜ (128 ≤ length (now out)) × ((1 ≤ from .version) × ((from .version ≤ 5) × (listedService (from .service) ≡ true))) ⌝ }
-    ensures { λ r. ⌜ sent r (now (out .exit)) ≡ sentOf (replyBytes (from .version) (from .service) startAck (from .session .0) message (bytesBe 4 hash)) (now (out .entry)) ⌝ }
+    ensures { λ r. ⌜ sent r (now (out .exit)) ≡ sentOf (replyBytes (from .version) (from .service) startAck (from .session) message (bytesBe 4 hash)) (now (out .entry)) ⌝ }
 {
     let mut raw = [0u8; 4];
     numbers::put_be4(&mut raw, 0, hash);
@@ -97,9 +99,15 @@ pub(crate) fn put_hash(from: From, message: u32, hash: u32, out: &mut [u8]) -> u
 }
 
 // A service's ACK in version 5: hashId and mtu.
-pub(crate) fn put_granted(from: From, message: u32, hash: u32, mtu: u32, out: &mut [u8]) -> usize
+pub(crate) fn put_granted(
+    from: From,
+    message: MessageId,
+    hash: u32,
+    mtu: u32,
+    out: &mut [u8],
+) -> usize
     requires { ⌜ (128 ≤ length (now out)) × ((1 ≤ from .version) × ((from .version ≤ 5) × (listedService (from .service) ≡ true))) ⌝ }
-    ensures { λ r. ⌜ sent r (now (out .exit)) ≡ sentOf (replyBytes (from .version) (from .service) startAck (from .session .0) message (serviceAckPayload hash mtu)) (now (out .entry)) ⌝ }
+    ensures { λ r. ⌜ sent r (now (out .exit)) ≡ sentOf (replyBytes (from .version) (from .service) startAck (from .session) message (serviceAckPayload hash mtu)) (now (out .entry)) ⌝ }
 {
     let mut payload = [0u8; 30];
     payload::reply::write_service_ack(hash, mtu as u64, &mut payload);
@@ -114,8 +122,8 @@ pub(crate) fn put_opened(
     version: Version,
     out: &mut [u8],
 ) -> usize
-    requires { ⌜ 128 ≤ length (now out) ⌝ }
-    ensures { λ r. ⌜ sent r (now (out .exit)) ≡ sentOf (newAck (session .0) hash mtu version) (now (out .entry)) ⌝ }
+    requires { ⌜ (128 ≤ length (now out)) × (1 ≤ version .major) ⌝ }
+    ensures { λ r. ⌜ sent r (now (out .exit)) ≡ sentOf (newAck session hash mtu version) (now (out .entry)) ⌝ }
 {
     let mut payload = [0u8; 64];
     let size = payload_count(payload::reply::write_ack(hash, mtu as u64, version, &mut payload));
@@ -124,30 +132,30 @@ pub(crate) fn put_opened(
         service: ServiceType(7),
         session: session,
     };
-    put(from, START_ACK, 1, &payload[0..size], out)
+    put(from, START_ACK, MessageId(1), &payload[0..size], out)
 }
 
 // A NAK that names a parameter.
 pub(crate) fn put_nak(from: From, info: u8, parameter: Parameter, out: &mut [u8]) -> usize
     requires { ⌜ (128 ≤ length (now out)) × ((1 ≤ from .version) × ((from .version ≤ 5) × ((listedService (from .service) ≡ true) × (infoFits 0 info ≡ true)))) ⌝ }
-    ensures { λ r. ⌜ sent r (now (out .exit)) ≡ sentOf (replyBytes (from .version) (from .service) info (from .session .0) 0 (nakPayload (nameOf parameter))) (now (out .entry)) ⌝ }
+    ensures { λ r. ⌜ sent r (now (out .exit)) ≡ sentOf (replyBytes (from .version) (from .service) info (from .session) noMessageId (nakPayload (nameOf parameter))) (now (out .entry)) ⌝ }
 {
     let mut payload = [0u8; 64];
     let size = payload_count(payload::reply::write_nak(parameter, &mut payload));
-    put(from, info, 0, &payload[0..size], out)
+    put(from, info, MessageId(0), &payload[0..size], out)
 }
 
 // A service's ACK: hashId and mtu in version 5, below it the raw hash. `settled` is the session's version.
 pub(crate) fn put_started(
     from: From,
     settled: u8,
-    message: u32,
+    message: MessageId,
     hash: u32,
     mtu: u32,
     out: &mut [u8],
 ) -> usize
     requires { ⌜ (128 ≤ length (now out)) × ((1 ≤ from .version) × ((from .version ≤ 5) × (listedService (from .service) ≡ true))) ⌝ }
-    ensures { λ r. ⌜ sent r (now (out .exit)) ≡ sentOf (replyBytes (from .version) (from .service) startAck (from .session .0) message (grantedPayload settled hash mtu)) (now (out .entry)) ⌝ }
+    ensures { λ r. ⌜ sent r (now (out .exit)) ≡ sentOf (replyBytes (from .version) (from .service) startAck (from .session) message (grantedPayload settled hash mtu)) (now (out .entry)) ⌝ }
 {
     if settled == 5 {
         return put_granted(from, message, hash, mtu, out);
@@ -158,10 +166,10 @@ pub(crate) fn put_started(
 // An End's NAK; it may name the hash id.
 pub(crate) fn put_not_ended(from: From, named: bool, out: &mut [u8]) -> usize
     requires { ⌜ (128 ≤ length (now out)) × ((1 ≤ from .version) × ((from .version ≤ 5) × (listedService (from .service) ≡ true))) ⌝ }
-    ensures { λ r. ⌜ sent r (now (out .exit)) ≡ sentOf (replyBytes (from .version) (from .service) endNak (from .session .0) 0 (pick named (nakPayload hashId) [])) (now (out .entry)) ⌝ }
+    ensures { λ r. ⌜ sent r (now (out .exit)) ≡ sentOf (replyBytes (from .version) (from .service) endNak (from .session) noMessageId (pick named (nakPayload hashId) [])) (now (out .entry)) ⌝ }
 {
     if named {
         return put_nak(from, END_NAK, Parameter::HashId, out);
     }
-    put_empty(from, END_NAK, 0, out)
+    put_empty(from, END_NAK, MessageId(0), out)
 }

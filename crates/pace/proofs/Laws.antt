@@ -19,13 +19,11 @@ use Rattle.text.specs.declared.Text.{Text}
 use Rattle.text.specs.Said.{said, Started, Longer}
 use Rattle.link.specs.declared.Link.{Link}
 use Rattle.link.specs.declared.Grant.{Grant}
-use Rattle.link.specs.declared.Answer.{Answer}
 use Rattle.link.specs.Call.{callOf}
-use Rattle.headunit.specs.declared.Called.{Called}
+use Rattle.link.specs.Values.{Values, accepted, Outcome, outcomeOf}
 use Rattle.headunit.specs.declared.Created.{Created}
-use Rattle.headunit.specs.Unit.{leaves}
 use Rattle.pace.specs.declared.Run.{Run}
-use Rattle.pace.specs.Pace.{isAccepted, countedOf, offered, behindOf, nextOf, placesIn, Left, left, counting, afterCall, runFrom, beginning, longest, numberAt, sizeAt, opening, again, scriptOf, Served, served, servedBy, servedOf, lineOf, emptyBuffer, answerOf}
+use Rattle.pace.specs.Pace.{countedOf, offered, behindOf, nextOf, placesIn, Left, left, counting, afterCall, runFrom, beginning, longest, numberAt, sizeAt, opening, again, scriptOf, Served, served, servedBy, servedOf, lineOf, emptyBuffer, answerOf}
 
 -- ---- places
 
@@ -44,12 +42,12 @@ module _ (at size n : ℕ) where
 
 -- all that calls leave, from its parts: the loop has each in a variable of its own
 abbrev pub stands : Link → ℕ → List ℕ → List ℕ → Left
-stands link accepted pool out = record { link = link; accepted = accepted; pool = pool; out = out }
+stands link n pool out = record { link = link; accepted = n; pool = pool; out = out }
 
 -- an answer, as the code counts it
-pub counts : {b : Bool} (n : ℕ) (a : Answer) → b ≡ isAccepted a → (n + boolByte b) % 2 ^ 64 ≡ countedOf n a
-counts {b} n a e =
-    let z : _≡_ {A = ℕ} (boolByte b) (pick (isAccepted a) 1 0) = bit-is b ∙ ap (λ (x : Bool). pick {A = ℕ} x 1 0) e in
+pub counts : {b : Bool} (n : ℕ) (v : Values) → b ≡ accepted v → (n + boolByte b) % 2 ^ 64 ≡ countedOf n v
+counts {b} n v e =
+    let z : _≡_ {A = ℕ} (boolByte b) (pick (accepted v) 1 0) = bit-is b ∙ ap (λ (x : Bool). pick {A = ℕ} x 1 0) e in
     ap (λ (k : ℕ). (n + k) % 2 ^ 64) z
 
 -- a link that was created, and no call accepted
@@ -57,12 +55,13 @@ abbrev pub begun : Created → Run
 begun x = record { link = x .link; accepted = 0 }
 
 -- what one call leaves, as the code has it
-pub call-taken : {r : Called} {pool′ out′ q : List ℕ} {n : ℕ} {g : Grant} (places : List ℕ) (at : ℕ) (link : Link) (accepted : ℕ) (pool out : List ℕ)
-    → g ≡ offered → q ≡ drop at places → leaves r pool′ out′ ≡ callOf link pool q out g → n ≡ countedOf accepted (r .answer)
-    → stands (r .link) n pool′ out′ ≡ afterCall places at (stands link accepted pool out)
-call-taken {r} {pool′} {out′} {q} places at link accepted pool out offer bytes e z =
-    ap (λ (k : ℕ). stands (r .link) k pool′ out′) z
-    ∙ ap (counting accepted) (e ∙ ap (callOf link pool q out) offer ∙ ap (λ (s : List ℕ). callOf link pool s out offered) bytes)
+pub call-taken : {o : Outcome} {q : List ℕ} {n : ℕ} {g : Grant} (places : List ℕ) (at : ℕ) (link : Link) (count : ℕ) (pool out : List ℕ)
+    → g ≡ offered → q ≡ drop at places → o ≡ outcomeOf (callOf link pool q out g) → n ≡ countedOf count (o .values)
+    → stands (o .link) n (o .pool) (o .out) ≡ afterCall places at (stands link count pool out)
+call-taken {o} {q} places at link count pool out offer bytes e z =
+    let made : List ℕ → Grant → Outcome = λ s x. outcomeOf (callOf link pool s out x) in
+    ap (λ (k : ℕ). stands (o .link) k (o .pool) (o .out)) z
+    ∙ ap (counting count) (e ∙ ap (made q) offer ∙ ap (λ (s : List ℕ). made s offered) bytes)
 
 module _ (places : List ℕ) (size at calls : ℕ) (l : Left) where
   -- one call more

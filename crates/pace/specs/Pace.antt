@@ -1,7 +1,6 @@
 -- What the benchmark's program answers: places gone over call by call, how many calls were accepted, and all that a script of such calls leaves.
 -- What the system reads and writes is in no contract of the kit: of that the definitions say nothing. Assumes nothing.
 use Prim.Native.Nat.{ℕ, zero, suc, _+_, _/_, _%_, _^_, min, max}
-use mathlib.Core.Bool.{Bool, true, false}
 use mathlib.Core.List.{List, [], _∷_, _++_}
 use lib.Dec.{eqb, ltb}
 use lib.ListN.{length, drop, replicate}
@@ -11,27 +10,16 @@ use Rattle.lines.specs.Decimal.{decimalOf}
 use Rattle.payload.specs.declared.version.Version.{Version}
 use Rattle.link.specs.declared.Link.{Link}
 use Rattle.link.specs.declared.Grant.{Grant}
-use Rattle.link.specs.declared.Answer.{Answer}
-use Rattle.link.specs.declared.Answer.the-variants as answer
-use Rattle.link.specs.Call.{After, callOf}
+use Rattle.link.specs.Call.{callOf}
+use Rattle.link.specs.Values.{Values, accepted, Outcome, outcomeOf}
 use Rattle.headunit.specs.Unit.{creationOf}
 use Rattle.pace.specs.declared.Run.{Run}
 
 -- ---- one call
 
--- a call that was neither too short nor refused
-abbrev pub isAccepted : Answer → Bool
-isAccepted (answer.Short n) = false
-isAccepted (answer.Refused n) = false
-isAccepted (answer.Acked n m) = true
-isAccepted (answer.Nacked n m) = true
-isAccepted (answer.Beat n m) = true
-isAccepted (answer.Accepted n) = true
-isAccepted (answer.Delivered n s m) = true
-
 -- one more where the answer is accepted, in 64 bits
-abbrev pub countedOf : ℕ → Answer → ℕ
-countedOf accepted a = (accepted + pick (isAccepted a) 1 0) % 2 ^ 64
+abbrev pub countedOf : ℕ → Values → ℕ
+countedOf n v = (n + pick (accepted v) 1 0) % 2 ^ 64
 
 -- what each call offers
 abbrev pub offered : Grant
@@ -65,12 +53,12 @@ abbrev pub left : Run → List ℕ → List ℕ → Left
 left run pool out = record { link = run .link; accepted = run .accepted; pool = pool; out = out }
 
 -- what one more call leaves
-abbrev pub counting : ℕ → After → Left
-counting accepted a = record { link = a .link; accepted = countedOf accepted (a .answer); pool = a .pool; out = a .out }
+abbrev pub counting : ℕ → Outcome → Left
+counting n o = record { link = o .link; accepted = countedOf n (o .values); pool = o .pool; out = o .out }
 
 -- one call, with the bytes from a place on
 abbrev pub afterCall : List ℕ → ℕ → Left → Left
-afterCall places at l = counting (l .accepted) (callOf (l .link) (l .pool) (drop at places) (l .out) offered)
+afterCall places at l = counting (l .accepted) (outcomeOf (callOf (l .link) (l .pool) (drop at places) (l .out) offered))
 
 -- so many calls, from a place on
 unfoldable pub runFrom : ℕ → List ℕ → ℕ → ℕ → Left → Left
@@ -121,7 +109,7 @@ pub record Served : Type 0 where
 
 -- the same, put together
 abbrev pub served : ℕ → List ℕ → List ℕ → Served
-served accepted pool out = record { accepted = accepted; pool = pool; out = out }
+served n pool out = record { accepted = n; pool = pool; out = out }
 
 -- of all that calls leave, all but the link
 abbrev pub servedBy : Left → Served

@@ -5,7 +5,8 @@
 // It writes how many calls were accepted. It assumes nothing of the input: what is missing is left out.
 ghost use mathlib.Core.Path.{_≡_};
 ghost use Rattle.text.specs.Said.{said};
-ghost use Rattle.pace.specs.Pace.{isAccepted, countedOf, offered, behindOf, nextOf, placesIn, left as leftBy, runFrom, beginning, served, servedOf, lineOf, answerOf};
+ghost use Rattle.link.specs.Values.{valuesOf, accepted};
+ghost use Rattle.pace.specs.Pace.{countedOf, offered, behindOf, nextOf, placesIn, left as leftBy, runFrom, beginning, served, servedOf, lineOf, answerOf};
 use libc::STDIN_FILENO;
 use libc::STDOUT_FILENO;
 use link::Answer;
@@ -46,7 +47,7 @@ fn behind(at: usize, size: usize, length: usize) -> usize
 
 // Neither too short nor refused.
 fn is_accepted(answer: Answer) -> bool
-    ensures { λ r. ⌜ r ≡ isAccepted answer ⌝ }
+    ensures { λ r. ⌜ r ≡ accepted (valuesOf answer) ⌝ }
 {
     match answer {
         Answer::Short(_) => false,
@@ -71,7 +72,7 @@ fn offer() -> Grant
 }
 
 fn counted(accepted: u64, answer: Answer) -> u64
-    ensures { λ r. ⌜ r ≡ countedOf accepted answer ⌝ }
+    ensures { λ r. ⌜ r ≡ countedOf accepted (valuesOf answer) ⌝ }
 {
     std::num::wrapping_add_u64(accepted, is_accepted(answer) as u64)
 }

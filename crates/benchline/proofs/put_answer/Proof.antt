@@ -1,6 +1,7 @@
 -- `benchline::put_answer` meets its contract: the number, the verdict and the newline, each right behind the last.
 -- Assumes nothing.
 use native.Mathlib.Omega.{arith}
+use Rattle.link.specs.Values.{valuesOf}
 use Rattle.benchline.specs.Line.{verdictOf}
 use Rattle.benchline.proofs.Texts.{text-put, verdict-some}
 use borrow.Author.Needs.{needs}
@@ -14,7 +15,7 @@ put-byte-requires : tie.Need-put-byte-requires
 put-byte-requires c κs = omega (arith, (c .before .before .before .before .before .before .before .before .before .before .before .pre), (c .before .before .before .before .before .before .before .put-number .ensures .1), (c .before .before .before .put-verdict .ensures .1))
 
 returns : tie.Need-returns
-returns c = text-put (c .before .before .before .before .before .before .before .before .before .before .before .before .before .before .args .number) (verdictOf (c .before .before .before .before .before .before .before .before .before .before .before .before .before .before .args .answer) (c .before .before .before .before .before .before .before .before .before .before .before .before .before .before .args .out .now)) (c .before .before .before .before .before .before .before .before .before .before .before .before .before .before .args .text .now) (omega (arith, (c .before .before .before .before .before .before .before .before .before .before .before .before .before .before .pre), (c .before .before .before .before .before .before .before .before .before .before .put-number .ensures .1), (c .before .before .before .before .before .before .put-verdict .ensures .1))) (verdict-some (c .before .before .before .before .before .before .before .before .before .before .before .before .before .before .args .answer) (c .before .before .before .before .before .before .before .before .before .before .before .before .before .before .args .out .now)) (c .before .before .before .before .before .before .before .before .before .before .put-number .ensures .0) (c .before .before .before .before .before .before .put-verdict .ensures .0) (c .before .before .put-byte .ensures)
+returns c = text-put (c .before .before .before .before .before .before .before .before .before .before .before .before .before .before .args .number) (verdictOf (valuesOf (c .before .before .before .before .before .before .before .before .before .before .before .before .before .before .args .answer)) (c .before .before .before .before .before .before .before .before .before .before .before .before .before .before .args .out .now)) (c .before .before .before .before .before .before .before .before .before .before .before .before .before .before .args .text .now) (omega (arith, (c .before .before .before .before .before .before .before .before .before .before .before .before .before .before .pre), (c .before .before .before .before .before .before .before .before .before .before .put-number .ensures .1), (c .before .before .before .before .before .before .put-verdict .ensures .1))) (verdict-some (valuesOf (c .before .before .before .before .before .before .before .before .before .before .before .before .before .before .args .answer)) (c .before .before .before .before .before .before .before .before .before .before .before .before .before .before .args .out .now)) (c .before .before .before .before .before .before .before .before .before .before .put-number .ensures .0) (c .before .before .before .before .before .before .put-verdict .ensures .0) (c .before .before .put-byte .ensures)
 
 pub put-answer-spec : {M : Type 1} → statement M
 put-answer-spec =

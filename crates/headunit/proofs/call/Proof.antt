@@ -1,8 +1,9 @@
 -- `headunit::call` meets its contract.
 -- Assumes nothing.
-use mathlib.Core.Path.{_∙_, sym}
+use mathlib.Core.Path.{ap, _∙_, sym}
 use borrow.Author.Tests.{not-true, not-false}
 use Rattle.link.specs.Call.{callOf}
+use Rattle.link.specs.Values.{outcomeOf}
 use Rattle.headunit.proofs.Laws.{short-is}
 use borrow.Author.Needs.{needs}
 use Rattle.headunit.proofs.call.Statement.{statement}
@@ -18,7 +19,7 @@ take-requires c κs = let fit = not-false ((c .before .before .before .before .b
 
 returns-2 : tie.Need-returns-2
 returns-2 c = let a = (c .before .before .before .before .before .before .before .before .before .before .args) in
-    short-is (a .link) (a .pool .now) (a .input .now) (a .out .now) (a .grant) _ (sym (c .before .before .before .before .before .before .survey .ensures .0) ∙ not-false ((c .before .before .before .before .before .before .survey .result) .fit) (c .before .before .before .before .if1 .left)) (sym (c .before .before .before .read .ensures) ∙ (c .before .needed .given .1))
+    ap outcomeOf (short-is (a .link) (a .pool .now) (a .input .now) (a .out .now) (a .grant) _ (sym (c .before .before .before .before .before .before .survey .ensures .0) ∙ not-false ((c .before .before .before .before .before .before .survey .result) .fit) (c .before .before .before .before .if1 .left)) (sym (c .before .before .before .read .ensures) ∙ (c .before .needed .given .1)))
 
 returns-3 : tie.Need-returns-3
 unfolding callOf
@@ -26,7 +27,7 @@ returns-3 c = rw (sym (c .before .before .before .before .before .before .survey
 
 returns-4 : tie.Need-returns-4
 unfolding callOf
-returns-4 c = (c .before .before .before .before .take .ensures) ∙ rw (sym (c .before .before .before .before .before .before .before .before .before .before .before .before .before .survey .ensures .0) ∙ not-false ((c .before .before .before .before .before .before .before .before .before .before .before .before .before .survey .result) .fit) (c .before .before .before .before .before .before .before .before .before .before .before .if1 .left), ← (c .before .before .before .before .before .before .before .before .before .before .read .ensures), (c .before .before .before .before .before .before .before .before .header .given .1))
+returns-4 c = ap outcomeOf (c .before .before .before .before .take .ensures) ∙ rw (sym (c .before .before .before .before .before .before .before .before .before .before .before .before .before .survey .ensures .0) ∙ not-false ((c .before .before .before .before .before .before .before .before .before .before .before .before .before .survey .result) .fit) (c .before .before .before .before .before .before .before .before .before .before .before .if1 .left), ← (c .before .before .before .before .before .before .before .before .before .before .read .ensures), (c .before .before .before .before .before .before .before .before .header .given .1))
 
 pub call-spec : {M : Type 1} → statement M
 call-spec =

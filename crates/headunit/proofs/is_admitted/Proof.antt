@@ -5,6 +5,7 @@ use native.Mathlib.Omega.{arith}
 use lib.Dec.{ltb}
 use borrow.Author.Tests.{ltb-true}
 use Rattle.numbers.proofs.Choices.{and-both}
+use Rattle.session.specs.Rows.{noSessionId}
 use Rattle.link.specs.Call.{admits}
 use Rattle.link.specs.State.{indexOf}
 use Rattle.rules.specs.Parts.{indexIn}
@@ -16,7 +17,7 @@ use Rattle.headunit.proofs.is_admitted.Tie as tie
 returns : tie.Need-returns
 unfolding admits
 returns c = λ l s.
-    let at : (c .before .before .index-of .result) ≡ indexOf 0 (l .rows) = (c .before .before .index-of .ensures .0) ∙ ap (indexIn 0) (s .names) ∙ index-ids 0 (l .rows) in
+    let at : (c .before .before .index-of .result) ≡ indexOf 0 (l .rows) = (c .before .before .index-of .ensures .0) ∙ ap (indexIn noSessionId) (s .names) ∙ index-ids noSessionId (l .rows) in
     (rw (← at, ← s .shares, s .eight), λ e. omega (arith, ltb-true (c .before .before .index-of .result) 8 (and-both (ltb (c .before .before .index-of .result) 8) _ e .0), at))
 
 pub is-admitted-spec : {M : Type 1} → statement M

@@ -5,6 +5,7 @@ use mathlib.Core.List.{[]}
 use Prim.Native.Nat.{ℕ, _-_}
 use native.Mathlib.Omega.{arith}
 use Rattle.link.specs.declared.Answer.the-variants as answer
+use Rattle.session.specs.Rows.{noSessionId, noMessageId}
 use Rattle.link.specs.Reply.{replyBytes, rpc}
 use Rattle.link.proofs.Replies.{reply-infos, rpc-listed}
 use Rattle.headunit.specs.Unit.{sentOf, repliedWith}
@@ -25,7 +26,7 @@ put-empty-requires c κs = ((c .before .before .before .pre .0), (rw (c .before 
 returns : tie.Need-returns
 returns c =
     let a = (c .before .before .before .before .before .before .args) in
-    λ p g. ap (repliedWith answer.Nacked (a .consumed) (a .link) p) ((c .before .before .put-empty .ensures) ∙ ap (λ (v : ℕ). sentOf (replyBytes v rpc 0x03 0 0 []) (a .out .now)) (c .before .before .before .before .least-byte .ensures))
+    λ p g. ap (repliedWith answer.Nacked (a .consumed) (a .link) p) ((c .before .before .put-empty .ensures) ∙ ap (λ (v : ℕ). sentOf (replyBytes v rpc 0x03 noSessionId noMessageId []) (a .out .now)) (c .before .before .before .before .least-byte .ensures))
 
 pub not-admitted-spec : {M : Type 1} → statement M
 not-admitted-spec =

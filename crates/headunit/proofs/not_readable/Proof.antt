@@ -6,6 +6,7 @@ use native.Mathlib.Omega.{arith}
 use Rattle.payload.specs.Tags.{protocolVersion}
 use Rattle.payload.specs.Reply.{nakPayload}
 use Rattle.link.specs.declared.Answer.the-variants as answer
+use Rattle.session.specs.Rows.{noSessionId, noMessageId}
 use Rattle.link.specs.Reply.{replyBytes, rpc}
 use Rattle.link.proofs.Replies.{reply-infos, rpc-listed}
 use Rattle.headunit.specs.Unit.{sentOf, repliedWith}
@@ -26,7 +27,7 @@ put-nak-requires c κs = ((c .before .before .before .pre .0), (rw (c .before .l
 returns : tie.Need-returns
 returns c =
     let a = (c .before .before .before .before .before .before .args) in
-    λ p g. ap (repliedWith answer.Nacked (a .consumed) (a .link) p) ((c .before .before .put-nak .ensures) ∙ ap (λ (v : ℕ). sentOf (replyBytes v rpc 0x03 0 0 (nakPayload protocolVersion)) (a .out .now)) (c .before .before .before .before .least-byte .ensures))
+    λ p g. ap (repliedWith answer.Nacked (a .consumed) (a .link) p) ((c .before .before .put-nak .ensures) ∙ ap (λ (v : ℕ). sentOf (replyBytes v rpc 0x03 noSessionId noMessageId (nakPayload protocolVersion)) (a .out .now)) (c .before .before .before .before .least-byte .ensures))
 
 pub not-readable-spec : {M : Type 1} → statement M
 not-readable-spec =

@@ -1,8 +1,10 @@
 -- `headunit::open` meets its contract.
 -- Assumes nothing.
 use mathlib.Core.Path.{_∙_, ap, sym}
+use native.Mathlib.Omega.{arith}
 use Rattle.link.specs.Call.{Wish, openingBy}
 use Rattle.headunit.specs.Unit.{wishFrom}
+use Rattle.link.proofs.Wishes.{wish-bounded}
 use borrow.Author.Needs.{needs}
 use Rattle.headunit.proofs.open.Statement.{statement}
 use Rattle.headunit.proofs.open.Tie as tie
@@ -11,7 +13,11 @@ open-old-requires : tie.Need-open-old-requires
 open-old-requires c κs = (c .before .before .before .before .before .before .pre)
 
 open-new-requires : tie.Need-open-new-requires
-open-new-requires c κs = (c .before .before .before .before .before .before .before .pre)
+open-new-requires c κs =
+    let a = (c .before .before .before .before .before .before .before .args) in
+    let p = (c .before .before .before .before .before .before .before .pre) in
+    let is = sym (c .before .before .before .before .wish-of .ensures) ∙ ap wishFrom (c .before .before .wish .given .1) in
+    (p .0, (p .1 .0, (wish-bounded (a .link .version .major) (a .payload .now) _ is .least, p .1 .1)))
 
 not-readable-requires : tie.Need-not-readable-requires
 not-readable-requires c κs = ((c .before .before .before .before .before .before .pre .0), (c .before .before .before .before .before .before .pre .1 .0))

@@ -3,7 +3,8 @@
 use mathlib.Core.Path.{_≡_, _∙_, sym, ap}
 use native.Mathlib.Omega.{arith}
 use borrow.Author.Tests.{not-true, not-false}
-use Rattle.link.specs.State.{indexOf, lowestFree}
+use Rattle.session.specs.Rows.{noSessionId}
+use Rattle.link.specs.State.{indexOf, newId}
 use Rattle.rules.specs.Parts.{indexIn, lowestUnused}
 use Rattle.rules.proofs.Ids.{index-ids, lowest-ids}
 use borrow.Author.Needs.{needs}
@@ -24,8 +25,8 @@ opened-old-requires : tie.Need-opened-old-requires
 opened-old-requires c κs = let l = (c .before .before .before .before .before .before .before .args .link) in
     let s = (c .before .before .before .before .before .before .before .pre .1 .1) in
     let found = (c .before .before .before .before .before .is-admitted .ensures) l s .1 (not-false (c .before .before .before .before .before .is-admitted .result) (c .before .before .before .before .if1 .left)) in
-    let at : (c .before .before .index-of .result) ≡ indexOf 0 (l .rows) = (c .before .before .index-of .ensures .0) ∙ ap (indexIn 0) (s .names) ∙ index-ids 0 (l .rows) in
-    let lowest : (c .before .lowest-free .result) .0 ≡ lowestFree 255 1 (l .rows) = (c .before .lowest-free .ensures) ∙ ap (lowestUnused 255 1) (s .names) ∙ lowest-ids 255 1 (l .rows) in
+    let at : (c .before .before .index-of .result) ≡ indexOf 0 (l .rows) = (c .before .before .index-of .ensures .0) ∙ ap (indexIn noSessionId) (s .names) ∙ index-ids noSessionId (l .rows) in
+    let lowest : (c .before .lowest-free .result) ≡ newId (l .rows) = (c .before .lowest-free .ensures) ∙ ap (lowestUnused 255 1) (s .names) ∙ lowest-ids 255 1 (l .rows) in
     (omega (arith, found, at), (at, ((c .before .before .before .before .before .before .before .pre .0), ((c .before .before .before .before .before .before .before .pre .1 .0), lowest))))
 
 returns-2 : tie.Need-returns-2

@@ -4,10 +4,11 @@ use mathlib.Core.Path.{_∙_, ap}
 use Prim.Native.Nat.{ℕ}
 use native.Mathlib.Omega.{arith}
 use Rattle.numbers.specs.Numbers.{bytesBe}
+use Rattle.frame.specs.declared.SessionId.{SessionId}
 use Rattle.link.specs.declared.Link.{Link}
 use Rattle.link.specs.declared.Answer.the-variants as answer
-use Rattle.link.specs.State.{lowestFree}
-use Rattle.link.specs.Reply.{replyBytes, oldAck, rpc}
+use Rattle.link.specs.State.{newId}
+use Rattle.link.specs.Reply.{replyBytes, firstMessageId, oldAck, rpc}
 use Rattle.link.proofs.Replies.{rpc-listed}
 use Rattle.headunit.specs.Unit.{sentOf, repliedWith}
 use Rattle.headunit.proofs.Laws.{opened-link}
@@ -23,9 +24,9 @@ with-row-requires c κs = (c .before .before .before .before .before .before .be
 
 returns : tie.Need-returns
 returns c = let a = (c .before .before .before .before .before .before .before .before .before .args) in
-    λ p. ap (repliedWith answer.Acked (a .consumed) (c .with-row .result) p) ((c .before .before .before .put-hash .ensures) ∙ ap (λ (v : ℕ). sentOf (replyBytes v rpc 0x02 (a .id .0) 1 (bytesBe 4 (a .grant .hash))) (a .out .now)) (c .before .before .before .before .before .least-byte .ensures)
-    ∙ ap (λ (k : ℕ). sentOf (oldAck (a .link .version .major) k (a .grant .hash)) (a .out .now)) (c .before .before .before .before .before .before .before .before .before .pre .1 .1 .1 .1))
-    ∙ ap (λ (l : Link). repliedWith answer.Acked (a .consumed) l p (sentOf (oldAck (a .link .version .major) (lowestFree 255 1 (a .link .rows)) (a .grant .hash)) (a .out .now)))
+    λ p. ap (repliedWith answer.Acked (a .consumed) (c .with-row .result) p) ((c .before .before .before .put-hash .ensures) ∙ ap (λ (v : ℕ). sentOf (replyBytes v rpc 0x02 (a .id) firstMessageId (bytesBe 4 (a .grant .hash))) (a .out .now)) (c .before .before .before .before .before .least-byte .ensures)
+    ∙ ap (λ (k : SessionId). sentOf (oldAck (a .link .version .major) k (a .grant .hash)) (a .out .now)) (c .before .before .before .before .before .before .before .before .before .pre .1 .1 .1 .1))
+    ∙ ap (λ (l : Link). repliedWith answer.Acked (a .consumed) l p (sentOf (oldAck (a .link .version .major) (newId (a .link .rows)) (a .grant .hash)) (a .out .now)))
     (opened-link (a .link) (a .i) (a .id) _ _ (a .grant) _ _ (c .before .before .before .before .before .before .before .before .before .pre .1 .0) (c .before .before .before .before .before .before .before .before .before .pre .1 .1 .1 .1) (c .before .before .before .before .before .before .before .old-version .ensures) (c .before .before .before .before .before .before .opened .ensures) (c .with-row .ensures))
 
 pub opened-old-spec : {M : Type 1} → statement M

@@ -23,7 +23,7 @@ returns : tie.Need-returns
 returns c =
     let a = (c .before .before .before .before .before .before .before .before .before .args) in
     counted (c .count .ensures) (c .before .before .before .write .ensures)
-    ∙ reply-sent (a .from .version) (a .from .service) (a .info) (a .from .session .0) (a .message) (a .payload .now) (a .out .now) (c .before .before .before .before .before .before .before .before .before .pre .0) (c .before .before .before .before .before .before .before .before .before .pre .1 .0) (c .before .before .before .before .before .before .before .before .before .pre .1 .1 .0) (c .before .before .before .before .before .before .before .before .before .pre .1 .1 .1 .0) (c .before .before .before .before .before .before .before .before .before .pre .1 .1 .1 .1 .0) (c .before .before .before .before .before .before .before .before .before .pre .1 .1 .1 .1 .1)
+    ∙ reply-sent (a .from .version) (a .from .service) (a .info) (a .from .session) (a .message) (a .payload .now) (a .out .now) (c .before .before .before .before .before .before .before .before .before .pre .0) (c .before .before .before .before .before .before .before .before .before .pre .1 .0) (c .before .before .before .before .before .before .before .before .before .pre .1 .1 .0) (c .before .before .before .before .before .before .before .before .before .pre .1 .1 .1 .0) (c .before .before .before .before .before .before .before .before .before .pre .1 .1 .1 .1 .0) (c .before .before .before .before .before .before .before .before .before .pre .1 .1 .1 .1 .1)
 
 pub put-spec : {M : Type 1} → statement M
 put-spec =

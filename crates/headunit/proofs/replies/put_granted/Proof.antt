@@ -35,7 +35,7 @@ returns : tie.Need-returns
 returns c =
     let a = (c .before .before .before .before .before .before .before .before .before .args) in
     let e = payload-whole (serviceAckPayload (a .hash) (a .mtu)) (replicate 30 0) (length-service-ack (a .hash) (a .mtu)) (c .before .before .before .before .before .before .write-service-ack .ensures) in
-    (c .before .before .put .ensures) ∙ ap (λ (p : List ℕ). sentOf (replyBytes (a .from .version) (a .from .service) 2 (a .from .session .0) (a .message) p) (a .out .now)) e
+    (c .before .before .put .ensures) ∙ ap (λ (p : List ℕ). sentOf (replyBytes (a .from .version) (a .from .service) 2 (a .from .session) (a .message) p) (a .out .now)) e
 
 pub put-granted-spec : {M : Type 1} → statement M
 put-granted-spec =

@@ -33,7 +33,7 @@ put-requires c κs =
 returns : tie.Need-returns
 returns c =
     let a = (c .before .before .before .before .before .before .before .before .before .args) in
-    (c .before .before .put .ensures) ∙ ap (λ (p : List ℕ). sentOf (replyBytes (a .from .version) (a .from .service) 2 (a .from .session .0) (a .message) p) (a .out .now)) (raw-put (replicate 4 0) (bytesBe 4 (a .hash)) refl (length-be 4 (a .hash)) (c .before .before .before .before .before .before .put-be4 .ensures))
+    (c .before .before .put .ensures) ∙ ap (λ (p : List ℕ). sentOf (replyBytes (a .from .version) (a .from .service) 2 (a .from .session) (a .message) p) (a .out .now)) (raw-put (replicate 4 0) (bytesBe 4 (a .hash)) refl (length-be 4 (a .hash)) (c .before .before .before .before .before .before .put-be4 .ensures))
 
 pub put-hash-spec : {M : Type 1} → statement M
 put-hash-spec =

@@ -5,6 +5,7 @@ use Prim.Native.Nat.{ℕ, _≤_}
 use mathlib.Core.List.{List}
 use lib.ListN.{length, replicate}
 use native.Mathlib.Omega.{arith}
+use Rattle.session.specs.Rows.{noMessageId}
 use Rattle.link.specs.Reply.{replyBytes}
 use Rattle.headunit.specs.Unit.{sentOf}
 use Rattle.payload.specs.Reply.{nakPayload, nameOf}
@@ -47,7 +48,7 @@ returns c =
     let bytes = nakPayload (nameOf (a .parameter)) in
     let short : length (nakPayload (nameOf (a .parameter))) ≤ 49 = nak-short (a .parameter) in
     let w = payload-front (nakPayload (nameOf (a .parameter))) (replicate 64 0) (omega arith) (c .before .before .before .before .before .before .payload-count .ensures) (c .before .before .before .before .before .before .before .before .write-nak .ensures) in
-    (c .before .before .put .ensures) ∙ ap (λ (p : List ℕ). sentOf (replyBytes (a .from .version) (a .from .service) (a .info) (a .from .session .0) 0 p) (a .out .now)) (front-is bytes (replicate 64 0) (w .0) (w .1))
+    (c .before .before .put .ensures) ∙ ap (λ (p : List ℕ). sentOf (replyBytes (a .from .version) (a .from .service) (a .info) (a .from .session) noMessageId p) (a .out .now)) (front-is bytes (replicate 64 0) (w .0) (w .1))
 
 pub put-nak-spec : {M : Type 1} → statement M
 put-nak-spec =

@@ -7,6 +7,7 @@ use Rattle.numbers.specs.Bytes.{pick}
 use Rattle.payload.specs.Tags.{hashId}
 use Rattle.payload.specs.Reply.{nakPayload}
 use Rattle.link.specs.declared.Answer.the-variants as answer
+use Rattle.session.specs.Rows.{noMessageId}
 use Rattle.link.specs.Reply.{replyBytes}
 use Rattle.link.proofs.Replies.{reply-infos}
 use Rattle.headunit.specs.Unit.{sentOf}
@@ -27,7 +28,7 @@ put-nak-requires c κs = ((c .before .before .before .pre .0), ((c .before .befo
 returns : tie.Need-returns
 returns c =
     let a = (c .before .before .before .before .before .before .args) in
-    (c .before .before .put-nak .ensures) ∙ ap (λ (b : Bool). sentOf (replyBytes (a .from .version) (a .from .service) 0x06 (a .from .session .0) 0 (pick b (nakPayload hashId) [])) (a .out .now)) (sym (c .before .before .before .before .if1 .taken))
+    (c .before .before .put-nak .ensures) ∙ ap (λ (b : Bool). sentOf (replyBytes (a .from .version) (a .from .service) 0x06 (a .from .session) noMessageId (pick b (nakPayload hashId) [])) (a .out .now)) (sym (c .before .before .before .before .if1 .taken))
 
 -- src/replies.rt:145:5
 put-empty-requires : tie.Need-put-empty-requires
@@ -38,7 +39,7 @@ put-empty-requires c κs = ((c .before .before .before .pre .0), ((c .before .be
 returns-2 : tie.Need-returns-2
 returns-2 c =
     let a = (c .before .before .before .before .before .before .args) in
-    (c .before .before .put-empty .ensures) ∙ ap (λ (b : Bool). sentOf (replyBytes (a .from .version) (a .from .service) 0x06 (a .from .session .0) 0 (pick b (nakPayload hashId) [])) (a .out .now)) (sym (c .before .before .before .before .if1 .left))
+    (c .before .before .put-empty .ensures) ∙ ap (λ (b : Bool). sentOf (replyBytes (a .from .version) (a .from .service) 0x06 (a .from .session) noMessageId (pick b (nakPayload hashId) [])) (a .out .now)) (sym (c .before .before .before .before .if1 .left))
 
 pub put-not-ended-spec : {M : Type 1} → statement M
 put-not-ended-spec =

@@ -21,7 +21,7 @@ use Rattle.headunit.proofs.replies.put_hash.Reads as put-hash-reads
 returns : tie.Need-returns
 returns c =
     let a = (c .before .before .before .before .before .before .args) in
-    (c .before .before .put-granted .ensures) ∙ ap (λ (x : List ℕ). sentOf (replyBytes (a .from .version) (a .from .service) 0x02 (a .from .session .0) (a .message) x) (a .out .now)) (granted-new (a .settled) (a .hash) (a .mtu) (c .before .before .before .before .if1 .taken))
+    (c .before .before .put-granted .ensures) ∙ ap (λ (x : List ℕ). sentOf (replyBytes (a .from .version) (a .from .service) 0x02 (a .from .session) (a .message) x) (a .out .now)) (granted-new (a .settled) (a .hash) (a .mtu) (c .before .before .before .before .if1 .taken))
 
 -- src/replies.rt:134:5
 -- src/replies.rt:127:1
@@ -29,7 +29,7 @@ returns c =
 returns-2 : tie.Need-returns-2
 returns-2 c =
     let a = (c .before .before .before .before .before .before .args) in
-    (c .before .before .put-hash .ensures) ∙ ap (λ (x : List ℕ). sentOf (replyBytes (a .from .version) (a .from .service) 0x02 (a .from .session .0) (a .message) x) (a .out .now)) (granted-old (a .settled) (a .hash) (a .mtu) (c .before .before .before .before .if1 .left))
+    (c .before .before .put-hash .ensures) ∙ ap (λ (x : List ℕ). sentOf (replyBytes (a .from .version) (a .from .service) 0x02 (a .from .session) (a .message) x) (a .out .now)) (granted-old (a .settled) (a .hash) (a .mtu) (c .before .before .before .before .if1 .left))
 
 pub put-started-spec : {M : Type 1} → statement M
 put-started-spec =
