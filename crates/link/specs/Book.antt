@@ -1,5 +1,5 @@
 -- The book: what somebody keeps who sees only each call's input, offer and answer. Document 01, "Book". And the shorter list, and what
--- it means that a session asks to go above its guarantee, as the mission words them.
+-- it means that a session asks to go above its guarantee, as the user words them.
 -- Assumes nothing.
 use Prim.Native.Nat.{ℕ, zero, suc, _+_, _-_, _≤_}
 use mathlib.Core.Bool.{Bool, true, false, _&&_, _||_}

@@ -1,5 +1,8 @@
 -- One call of the link: the answer, the state after it, and every byte of pool and out. Document 01, "The link" to "Messages", and the
 -- order of the answer numbers: "10, the reader's Short or 1 to 6, 11 (under 128), 12 to 17, then 18 to 21 or 22 to 25, then 11".
+-- The user's first demand: "Any bytes, settings or buffers may come. Every public call ends and answers by the table in document 01, refusals given exactly
+-- when it says." And the second: "Frames, control payloads, negotiation, replies and joined messages are those of the SmartDeviceLink protocol as document
+-- 01 fixes it."
 -- Assumes nothing.
 use Prim.Native.Nat.{ℕ, _+_, _-_}
 use mathlib.Core.Bool.{Bool, true, false, _&&_, not}
