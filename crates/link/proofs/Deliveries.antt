@@ -119,8 +119,8 @@ module _ (s : State) (q : Request) (k : Sane s) (h : Header) (e : Extent) (f : r
   size : e .consumed ≡ consumedBy (readOf (q .input))
   size = sym (ap consumedBy f)
 
-  service : h .service .0 ≡ serviceAt place
-  service = sym (service-place (h .service) (fault-none h (frame-sound (q .input) h e f) .service))
+  service : h .service .0 ∷ [] ≡ serviceAt place ∷ []
+  service = ap (λ (x : ℕ). x ∷ []) (sym (service-place (h .service) (fault-none h (frame-sound (q .input) h e f) .service)))
 
   -- every decision gives what is due
   gives : {ask : Ask} {act : Act} → Decided (s .link) n h (payloadIn q e) ask act → Owes ask act
@@ -132,7 +132,7 @@ module _ (s : State) (q : Request) (k : Sane s) (h : Header) (e : Extent) (f : r
   gives (stops d) = λ _. refl
   gives (closes d) = λ _. refl
   gives ends-not = λ _. refl
-  gives (hands-over p) = λ _. record { frame = size; on = service; whole = refl; bytes = refl }
+  gives (hands-over p) = λ _. record { kind = refl; frame = size; on = service; whole = refl; bytes = refl }
   gives (claims p a b c d e) = λ _. refl
   gives (drops d o) = λ z. absurd z
   gives (appends c sizes more) =
@@ -145,6 +145,7 @@ module _ (s : State) (q : Request) (k : Sane s) (h : Header) (e : Extent) (f : r
       let last : m .missing ≡ length payload = last-size m (h .size) sizes one ∙ sym (payload-length (q .input) h e f) in
       let all : m .total - (m .missing - length payload) ≡ m .total = omega arith in
       λ _. rw (note-here, due-whole s n place m (h .message .0) payload (c .live) (c .same) one (o .frames-most)) (record {
+        kind = refl;
         frame = size;
         on = service;
         whole = sym (whole s k n place m payload (c .live) (o .missing-most) (omega arith) held last);

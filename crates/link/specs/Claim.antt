@@ -8,7 +8,6 @@ use mathlib.Core.List.{List, [], _∷_, _++_, map}
 use lib.Dec.{T, eqb, ltb}
 use lib.ListN.{length}
 use Rattle.numbers.specs.Bytes.{laid}
-use Rattle.frame.specs.declared.ServiceType.{ServiceType}
 use Rattle.frame.specs.declared.Reading.{Reading}
 use Rattle.frame.specs.declared.Reading.the-variants as reading
 use Rattle.frame.specs.Read.{readOf}
@@ -16,9 +15,9 @@ use Rattle.blocks.specs.Map.{heldByAll, freeIn}
 use Rattle.payload.specs.declared.version.Version.{Version}
 use Rattle.link.specs.declared.Link.{Link}
 use Rattle.link.specs.declared.Answer.{Answer}
-use Rattle.link.specs.declared.Answer.the-variants as answer
 use Rattle.link.specs.State.{indexOf, ownerOf, createdLink}
 use Rattle.link.specs.Call.{After, callOf}
+use Rattle.link.specs.Values.{delivery, Values, valuesOf, serviceBytes, is}
 use Rattle.link.specs.Book.{Request, Command, call, Event, Seen, opening, seenOf, isAccepted, isAck, Page, Book, emptyBook, there, lowestNotIn, needsOf, needsInAll, bookOf, bookAfter, Due, dueOf, ownOf, Modest}
 
 -- the link and its pool
@@ -64,31 +63,20 @@ consumedBy (reading.Frame h e) = e .consumed
 abbrev pub frontSize : Command → ℕ
 frontSize (call q) = consumedBy (readOf (q .input))
 
--- a delivery's values and out, of what is due by a frame of so many bytes: "as the bytes joined there" (a Single Frame: its payload), at the front of out; "Bytes
--- of out past those written stay."
-pub record Handed (due : Due) (size : ℕ) (before out : List ℕ) (consumed : ℕ) (service : ServiceType) (written : ℕ) : Type 0 where
-  pub frame : consumed ≡ size
-  pub on : service .0 ≡ due .service
-  pub whole : written ≡ length (due .bytes)
+-- an answer's values and out hand over what is due, by a frame of so many bytes: "as the bytes joined there" (a Single Frame: its payload), at the front of out;
+-- "Bytes of out past those written stay."
+pub record Handed (due : Due) (size : ℕ) (before out : List ℕ) (v : Values) : Type 0 where
+  pub kind : is delivery v ≡ true
+  pub frame : v .consumed ≡ size
+  pub on : serviceBytes (v .service) ≡ due .service ∷ []
+  pub whole : v .written ≡ length (due .bytes)
   pub bytes : out ≡ laid (due .bytes) before
 
 abbrev pub DeliversIt : Due → ℕ → List ℕ → List ℕ → Answer → Type 0
-DeliversIt due size before out (answer.Short n) = ⊥
-DeliversIt due size before out (answer.Refused n) = ⊥
-DeliversIt due size before out (answer.Acked c n) = ⊥
-DeliversIt due size before out (answer.Nacked c n) = ⊥
-DeliversIt due size before out (answer.Beat c n) = ⊥
-DeliversIt due size before out (answer.Accepted c) = ⊥
-DeliversIt due size before out (answer.Delivered c v n) = Handed due size before out c v n
+DeliversIt due size before out a = Handed due size before out (valuesOf a)
 
 abbrev pub isDelivery : Answer → Bool
-isDelivery (answer.Short n) = false
-isDelivery (answer.Refused n) = false
-isDelivery (answer.Acked c n) = false
-isDelivery (answer.Nacked c n) = false
-isDelivery (answer.Beat c n) = false
-isDelivery (answer.Accepted c) = false
-isDelivery (answer.Delivered c v n) = true
+isDelivery a = is delivery (valuesOf a)
 
 abbrev pub outBefore : Command → List ℕ
 outBefore (call q) = q .out
