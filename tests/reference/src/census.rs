@@ -9,7 +9,9 @@ use crate::lines::Lines;
 use crate::link;
 use crate::text;
 
-const COMMANDS: [&str; 6] = ["read", "write", "send", "payload", "new", "call"];
+const COMMANDS: [&str; 8] = [
+    "read", "write", "send", "payload", "rpc", "rpcwrite", "new", "call",
+];
 
 /// How often each kind of answer was given.
 pub type Census = BTreeMap<String, usize>;
@@ -38,7 +40,7 @@ pub fn take(input: impl BufRead) -> io::Result<Census> {
 }
 
 /// The command and the kind of its answer: the refusal's number, or what a
-/// `call` was answered with.
+/// `call` was answered with; with `rpc` and `rpcwrite` also the form.
 pub fn kind(line: &[u8], answer: &[u8]) -> String {
     let line = String::from_utf8_lossy(line);
     let answer = String::from_utf8_lossy(answer);
@@ -50,11 +52,15 @@ pub fn kind(line: &[u8], answer: &[u8]) -> String {
         ("call", ["W", _, reply, ..]) => reply_kind(&bytes(reply)),
         ("call", ["D", _, _, message, ..]) => format!("D {}", delivery_kind(&line, message)),
         ("call", ["A", ..]) => format!("A {}", frame_kind(&line)),
+        ("rpc", ["P", "-", ..]) => "P without header".into(),
         (_, ["R", number, ..]) => format!("R {number:>2}"),
         (_, [first, ..]) => first.to_string(),
         _ => String::new(),
     };
-    format!("{command} {kind}")
+    match (command, line.split(' ').nth(1)) {
+        ("rpc" | "rpcwrite", Some(form)) if kind != "?" => format!("{command} {form} {kind}"),
+        _ => format!("{command} {kind}"),
+    }
 }
 
 fn bytes(word: &str) -> Vec<u8> {

@@ -1,6 +1,8 @@
-//! The numbers of document 01's table "Answer numbers" that refuse a call.
+//! The numbers that refuse a call: those of document 01's table "Answer
+//! numbers", and those that document 02 adds.
 
-/// A refusal. The comments quote the table's "Given exactly when".
+/// A refusal. The comments quote the table's "Given exactly when", from 40 on
+/// the text of request A1.
 #[derive(Clone, Copy, Debug, PartialEq, Eq)]
 #[repr(u8)]
 pub enum Refusal {
@@ -66,10 +68,21 @@ pub enum Refusal {
     TooDeep = 33,
     /// "known tag twice or of another type"
     KnownTag = 34,
+    /// "payload under 12 bytes"
+    PayloadTooShort = 40,
+    /// "type not 0 to 2 (query: not 00, 10, 20 or FF)"
+    MessageType = 41,
+    /// "query id not 1, 2 or FFFFFF (all hex; in the writer also a function id
+    /// over 28 bits)"
+    FunctionId = 42,
+    /// "JSON size past the end"; writer: "if the JSON size isn't the JSON's length"
+    JsonSize = 43,
+    /// "bytes after the JSON on RPC"; writer: "bulk on RPC"
+    BytesAfterJson = 44,
 }
 
 impl Refusal {
-    /// The number in the table.
+    /// The number in the document.
     pub fn number(self) -> u8 {
         self as u8
     }

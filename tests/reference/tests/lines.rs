@@ -159,6 +159,7 @@ fn scripts_depend_on_the_seed_alone() {
         Form::All,
         Form::Frames,
         Form::Payloads,
+        Form::Rpc,
         Form::Calls,
         Form::Bench,
     ] {
@@ -199,6 +200,8 @@ fn scripts_reach_every_answer() {
         ("write", "B,R 1,R 2,R 3,R 4,R 5,R 6,R 11,?"),
         ("send", "B,R 1,R 3,R 10,R 11,R 18,R 26,?"),
         ("payload", "T,R 30,R 31,R 32,R 33,R 34,?"),
+        ("rpc", "P,R 1,R 40,R 41,R 42,R 43,R 44,?"),
+        ("rpcwrite", "B,R 1,R 11,R 41,R 42,R 43,R 44,?"),
         ("call", "W,D,A,S,R 10,R 11,R 20,?"),
     ] {
         for answer in answers.split(',') {

@@ -1,11 +1,12 @@
-//! Prints a script: `generate [--frames | --payloads | --calls | --bench] SEED LINES`.
+//! Prints a script: `generate [--frames | --payloads | --rpc | --calls | --bench] SEED LINES`.
 
 use std::io::{self, BufWriter};
 use std::process::ExitCode;
 
 use reference::generate::{write_script, Form};
 
-const USAGE: &str = "usage: generate [--frames | --payloads | --calls | --bench] SEED LINES";
+const USAGE: &str =
+    "usage: generate [--frames | --payloads | --rpc | --calls | --bench] SEED LINES";
 
 fn main() -> ExitCode {
     let Some((form, seed, lines)) = arguments() else {
@@ -29,6 +30,7 @@ fn arguments() -> Option<(Form, u64, u64)> {
     let (form, numbers) = match words.as_slice() {
         [option, numbers @ ..] if option == "--frames" => (Form::Frames, numbers),
         [option, numbers @ ..] if option == "--payloads" => (Form::Payloads, numbers),
+        [option, numbers @ ..] if option == "--rpc" => (Form::Rpc, numbers),
         [option, numbers @ ..] if option == "--calls" => (Form::Calls, numbers),
         [option, numbers @ ..] if option == "--bench" => (Form::Bench, numbers),
         numbers => (Form::All, numbers),

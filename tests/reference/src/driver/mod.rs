@@ -10,6 +10,8 @@ mod call;
 mod new;
 mod payload;
 mod read;
+mod rpc;
+mod rpcwrite;
 mod send;
 mod words;
 mod write;
@@ -43,8 +45,10 @@ pub struct Driver {
 /// Kept only to spare allocations; no command sees what another left there.
 #[derive(Default)]
 struct Buffers {
-    /// The bytes of the line's HEX.
+    /// The bytes of the line's HEX; in `rpcwrite` of its JSON.
     input: Vec<u8>,
+    /// The bytes of BULK.
+    bulk: Vec<u8>,
     out: Vec<u8>,
 }
 
@@ -79,6 +83,8 @@ impl Driver {
             b"write" => write::answer(&mut words, buffers, reply),
             b"send" => send::answer(&mut words, buffers, reply),
             b"payload" => payload::answer(&mut words, buffers, reply),
+            b"rpc" => rpc::answer(&mut words, buffers, reply),
+            b"rpcwrite" => rpcwrite::answer(&mut words, buffers, reply),
             b"new" => new::answer(&mut words, &mut self.link, reply),
             b"call" => call::answer(&mut words, buffers, self.link.as_mut(), reply),
             _ => None,
@@ -106,7 +112,7 @@ pub fn serve(input: impl BufRead, mut output: impl Write) -> io::Result<()> {
     output.flush()
 }
 
-/// Appends `B n CHECK HEX` for a frame written to the front of `out`, or `R n`.
+/// Appends `B n CHECK HEX` for what was written to the front of `out`, or `R n`.
 fn push_written(written: Result<usize, Refusal>, out: &[u8], reply: &mut Vec<u8>) {
     let length = match written {
         Ok(length) => length,

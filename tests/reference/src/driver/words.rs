@@ -2,6 +2,7 @@
 //!
 //! A space too many makes an empty word, which nothing reads.
 
+use crate::rpc::Form;
 use crate::text;
 
 /// "Every out buffer is OUTLEN bytes (at most 131,084; more is answered `?`)".
@@ -58,6 +59,16 @@ impl<'a> Words<'a> {
     pub fn out_length(&mut self) -> Option<usize> {
         let number = text::parse_number(self.next_word()?, LARGEST_OUT)?;
         usize::try_from(number).ok()
+    }
+
+    /// "FORM is `rpc`, `bulk` or `query`"
+    pub fn form(&mut self) -> Option<Form> {
+        match self.next_word()? {
+            b"rpc" => Some(Form::Rpc),
+            b"bulk" => Some(Form::Bulk),
+            b"query" => Some(Form::Query),
+            _ => None,
+        }
     }
 
     /// HEX; its bytes replace those of `bytes`.

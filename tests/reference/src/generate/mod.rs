@@ -13,6 +13,7 @@ mod odd_lines;
 mod payload_lines;
 pub mod random;
 mod read_lines;
+mod rpc_lines;
 mod send_lines;
 mod talk;
 mod values;
@@ -23,6 +24,7 @@ use std::io::{self, Write};
 use crate::text;
 use bench_lines::BenchLines;
 use call_lines::Calls;
+use odd_lines::Source;
 use random::Random;
 
 /// What a script holds.
@@ -34,6 +36,8 @@ pub enum Form {
     Frames,
     /// Readable `payload` lines only.
     Payloads,
+    /// `rpc` and `rpcwrite` lines, and lines next to them that cannot be read.
+    Rpc,
     /// Readable `new` and `call` lines only.
     Calls,
     /// Lines for the bench program.
@@ -83,6 +87,7 @@ impl Script {
             }
             Form::Frames => frame_line(random),
             Form::Payloads => payload_line(random, &mut self.waiting),
+            Form::Rpc => rpc_line(random),
             Form::Bench => self.bench.line(random),
         }
     }
@@ -91,18 +96,30 @@ impl Script {
 fn any_line(random: &mut Random, calls: &mut Calls) -> Vec<u8> {
     match random.weighted(&[85, 15]) {
         0 => command_line(random, calls),
-        _ => odd_lines::line(random, calls),
+        _ => odd_lines::line(random, &mut Source::All(calls)),
     }
 }
 
+/// A driver that does not serve `rpc` and `rpcwrite` answers `?` to them; false
+/// takes them out of the mixture, and `--rpc` is for the reference alone then.
+const RPC_SERVED: bool = true;
+
 /// A readable line of any command that the driver serves.
 fn command_line(random: &mut Random, calls: &mut Calls) -> Vec<u8> {
-    match random.below(5) {
+    match random.below(if RPC_SERVED { 6 } else { 5 }) {
         0 => read_lines::line(random),
         1 => write_lines::line(random),
         2 => send_lines::line(random),
         3 => payload_lines::line(random),
-        _ => calls.line(random),
+        4 => calls.line(random),
+        _ => rpc_lines::line(random),
+    }
+}
+
+fn rpc_line(random: &mut Random) -> Vec<u8> {
+    match random.weighted(&[90, 10]) {
+        0 => rpc_lines::line(random),
+        _ => odd_lines::line(random, &mut Source::Rpc),
     }
 }
 
@@ -130,6 +147,11 @@ struct Line(Vec<u8>);
 impl Line {
     fn of(command: &str) -> Self {
         Line(command.into())
+    }
+
+    fn word(&mut self, word: &str) {
+        self.0.push(b' ');
+        self.0.extend_from_slice(word.as_bytes());
     }
 
     fn number(&mut self, number: u64) {
