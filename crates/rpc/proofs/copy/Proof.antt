@@ -1,0 +1,26 @@
+-- `rpc::copy` meets its contract, either way.
+-- Assumes nothing.
+use native.Mathlib.Omega.{arith}
+use Rattle.rpc.proofs.Buffers.{copied}
+use borrow.Author.Needs.{needs}
+use Rattle.rpc.proofs.copy.Statement.{statement}
+use Rattle.rpc.proofs.copy.Tie as tie
+
+copy-short-requires : tie.Need-copy-short-requires
+copy-short-requires c κs = (omega arith, (c .before .before .before .before .pre))
+
+returns : tie.Need-returns
+returns c = (c .before .before .copy-short .ensures)
+
+returns-2 : tie.Need-returns-2
+returns-2 c = copied (c .before .before .before .before .before .before .before .args .source .now) (c .before .before .before .before .before .before .before .args .target .now) (c .before .before .before .before .before .before .before .pre) ((c .before .before .copy .ensures) .1)
+
+pub copy-spec : {M : Type 1} → statement M
+copy-spec =
+    tie.close
+    (tie.spec
+    copy-short-requires
+    (λ c κs. search needs) (λ c. search needs)  -- copy-requires, same-length
+    returns
+    (λ c. search needs)  -- same-length-2
+    returns-2)
