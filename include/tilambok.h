@@ -1,9 +1,10 @@
 /*
- * tilambok.h - the frame reader and the frame writers, for C99 and C++.
+ * tilambok.h - the frame reader and the frame writers, and the reader and the writer of RPC payloads, for C99 and C++.
  *
- * The functions are written in Rattle (crates/capture) and proved: for all inputs the result and every lent byte are what
- * specs/Capture.antt says, no byte outside the lent ones is read or written, and every call ends. This file says the same
- * in words; it is written by hand and is no part of the proof. Link with libcapture.a (`rt staticlib capture`).
+ * The functions are written in Rattle (crates/capture and crates/smoke) and proved: for all inputs the result and every
+ * lent byte are what specs/Capture.antt and specs/Smoke.antt say, no byte outside the lent ones is read or written, and
+ * every call ends. This file says the same in words; it is written by hand and is no part of the proof. Link with
+ * libcapture.a (`rt staticlib capture`) for frames and libsmoke.a (`rt staticlib smoke`) for RPC payloads, or with both.
  *
  * What the caller owes, since no check can see it:
  *   - A pointer and the length behind it describe bytes that the caller may read (a `const` pointer) or write (the others)
@@ -28,9 +29,10 @@ extern "C" {
  * A result holds a class in its upper 32 bits and the value that goes with it in its lower 32 bits.
  *
  *   class                value
- *   TILAMBOK_DONE        reader: bytes consumed, header and payload; writers: bytes written
+ *   TILAMBOK_DONE        frame reader: bytes consumed, header and payload; frame writers: bytes written;
+ *                        RPC payloads: see each function
  *   TILAMBOK_REFUSED     one of the numbers below
- *   TILAMBOK_SHORT       reader only: how many bytes are needed in all, those that are there included
+ *   TILAMBOK_SHORT       frame reader only: how many bytes are needed in all, those that are there included
  */
 #define TILAMBOK_DONE 0
 #define TILAMBOK_REFUSED 1
@@ -45,8 +47,8 @@ static inline uint32_t tilambok_value(uint64_t result) {
 }
 
 /*
- * Why a call was refused. Where several apply, the lowest of 1 to 6 is given, and 11 only where none of them applies.
- * A refused call writes nothing.
+ * Why a call was refused. Where several apply, the lowest of 1 to 6 is given, and 11 only where none of them applies; those
+ * of RPC payloads stand further below. A refused call writes nothing.
  *
  *   no  given exactly when
  *    1  the version is 0 or above 5
@@ -133,6 +135,86 @@ uint64_t tilambok_write_header(uint8_t version, uint8_t flag, uint8_t frame_type
 uint64_t tilambok_write_frame(uint8_t version, uint8_t flag, uint8_t frame_type, uint8_t service_type, uint8_t frame_info,
                               uint8_t session_id, uint32_t data_size, uint32_t message_id, const uint8_t *payload,
                               size_t payload_length, uint8_t *out, size_t out_length);
+
+/* ---- RPC payloads: what is inside joined messages ---- */
+
+/* The three forms of a payload. */
+#define TILAMBOK_RPC 0    /* header and JSON, on service 07; at version 1 JSON alone */
+#define TILAMBOK_BULK 1   /* header, JSON and bulk data, on service 0F */
+#define TILAMBOK_QUERY 2  /* the security query: header, JSON and binary data, on service 00 */
+
+/*
+ * Why a call on a payload was refused. Where several apply, the first in this order is given: 10, 1, 40 to 44, 11.
+ *
+ *   no  given exactly when
+ *   10  the form is none of the three
+ *    1  the version is 0 or above 5
+ *   40  reader: the payload has under 12 bytes
+ *   41  the type is above 2; in a query: is none of 00, 10, 20, FF (hexadecimal)
+ *   42  a query's id is none of 1, 2, FFFFFF (hexadecimal); writer: also a function id of more than 28 bits
+ *   43  reader: the JSON size is past the payload's end; writer: it is not json_length
+ *   44  reader: bytes follow the JSON in the RPC form; writer: bulk_length is not 0 in the RPC form
+ *   11  the buffer that is to be written, `fields` or `out`, is too small
+ *
+ * At version 1 the RPC form, and it alone, has no header: 40 to 43 are not given, and 44 by the writer alone.
+ */
+#define TILAMBOK_NO_FORM 10
+#define TILAMBOK_RPC_TOO_SHORT 40
+#define TILAMBOK_RPC_BAD_TYPE 41
+#define TILAMBOK_RPC_BAD_ID 42
+#define TILAMBOK_RPC_BAD_JSON_SIZE 43
+#define TILAMBOK_RPC_BULK 44
+
+/*
+ * The fields of a payload that was read: TILAMBOK_RPC_FIELDS bytes, each of these at its place. The last three are 4 bytes
+ * each, most significant first: see tilambok_field_u32. Without a header each of the bytes is 0.
+ */
+#define TILAMBOK_RPC_FIELDS 16
+#define TILAMBOK_RPC_AT_HEADER 0     /* 1 with a header, else 0: the RPC form at version 1 */
+#define TILAMBOK_RPC_AT_TYPE 1       /* 0 to 2; in a query 00, 10, 20 or FF (hexadecimal) */
+#define TILAMBOK_RPC_AT_JSON_START 2 /* where the JSON begins: 12 behind a header, else 0 */
+#define TILAMBOK_RPC_AT_ZERO 3       /* always 0 */
+#define TILAMBOK_RPC_AT_ID 4         /* function id; in a query its id */
+#define TILAMBOK_RPC_AT_NUMBER 8     /* correlation id; in a query the sequence number */
+#define TILAMBOK_RPC_AT_JSON_SIZE 12 /* bytes of JSON; without a header the JSON is the whole payload */
+
+/*
+ * The form of the messages that come on a service.
+ *
+ *   TILAMBOK_REFUSED  10: none; audio and video carry no such payload, and other numbers are no service.
+ *   TILAMBOK_DONE     the value is the form.
+ */
+uint64_t tilambok_rpc_form(uint8_t service_type);
+
+/*
+ * Reads a payload: the bytes of a whole message, as the link delivers them, with its session's version. JSON is not
+ * looked into.
+ *
+ *   TILAMBOK_REFUSED  10, 1, 40 to 44; 11: the payload has no fault, and fields_length is below TILAMBOK_RPC_FIELDS.
+ *   TILAMBOK_DONE     the first TILAMBOK_RPC_FIELDS bytes of `fields` say what the payload is, and the value is where the
+ *                     JSON begins. With a header the JSON is as long as the JSON size says, and what follows it, to the
+ *                     payload's end, is bulk data (in a query, binary data). Without one all of the payload is JSON.
+ *
+ * `payload` is only read. `fields` past its first TILAMBOK_RPC_FIELDS bytes is left as it is, and all of it where the call
+ * is refused.
+ */
+uint64_t tilambok_read_rpc(uint8_t form, uint8_t version, const uint8_t *payload, size_t payload_length, uint8_t *fields,
+                           size_t fields_length);
+
+/*
+ * Writes a payload, header, JSON and bulk data, to the front of `out`. `id` is the function id, in a query its id; `number`
+ * the correlation id, in a query the sequence number. In the RPC form at version 1 the JSON is written alone, and type, id,
+ * number and json_size are not looked at.
+ *
+ *   TILAMBOK_REFUSED  10, 1, 41 to 44; 11: out_length is below what is to be written.
+ *   TILAMBOK_DONE     the value is where the JSON begins in `out`, 12 or 0, and that many bytes plus json_length plus
+ *                     bulk_length were written. (Their sum may need more than 32 bits.)
+ *
+ * `json` and `bulk` are only read. `out` past the bytes written is left as it is, and all of it where the call is refused.
+ */
+uint64_t tilambok_write_rpc(uint8_t form, uint8_t version, uint8_t type, uint32_t id, uint32_t number, uint32_t json_size,
+                            const uint8_t *json, size_t json_length, const uint8_t *bulk, size_t bulk_length, uint8_t *out,
+                            size_t out_length);
 
 #ifdef __cplusplus
 }

@@ -4,186 +4,11 @@
  * It reads lines on standard input and answers each on standard output, as docs/DRIVER.md says, for `read` and `write`;
  * any other line is answered `?`. So its answers can be compared with those of any program that speaks these lines.
  * On each line it also holds the calls to what tilambok.h promises, and ends with status 1 and a message where one breaks
- * it. Every lent buffer ends right before a page that may not be touched: the archive's own code is not compiled for the
- * address sanitizer, which would see a byte too many in this file only, but there it stops at a signal.
+ * it. Every lent buffer ends right before a page that may not be touched (../script.h).
  */
 #define _DEFAULT_SOURCE /* mmap */
 
-#include "tilambok.h"
-
-#include <stdio.h>
-#include <stdlib.h>
-#include <string.h>
-#include <sys/mman.h>
-#include <unistd.h>
-
-#define LONGEST_LINE 300000
-#define LARGEST_OUT 131084
-#define FILL 0xEE
-
-static unsigned long line_number = 0;
-
-static void hold(int fact, const char *promise) {
-    if (!fact) {
-        fflush(stdout);
-        fprintf(stderr, "line %lu: %s\n", line_number, promise);
-        exit(1);
-    }
-}
-
-/* ---- lent buffers ---- */
-
-struct block {
-    uint8_t *data; /* never null, also where length is 0 */
-    size_t length;
-};
-
-/* whole pages for so many bytes, without the page behind them */
-static size_t paged(size_t length) {
-    size_t page = (size_t)sysconf(_SC_PAGESIZE);
-    return (length + page - 1) / page * page;
-}
-
-/* The bytes before the block, in its first page, are 0 and stay so: see free_block. */
-static struct block new_block(size_t length, int fill) {
-    size_t inside = paged(length);
-    uint8_t *base = mmap(NULL, inside + paged(1), PROT_READ | PROT_WRITE, MAP_PRIVATE | MAP_ANONYMOUS, -1, 0);
-    hold(base != MAP_FAILED && mprotect(base + inside, paged(1), PROT_NONE) == 0, "no memory is left");
-    struct block block = {base + (inside - length), length};
-    memset(block.data, fill, length);
-    return block;
-}
-
-static struct block copy_of(const uint8_t *bytes, size_t length) {
-    struct block block = new_block(length, 0);
-    memcpy(block.data, bytes, length);
-    return block;
-}
-
-static void free_block(struct block block) {
-    size_t inside = paged(block.length);
-    uint8_t *base = block.data - (inside - block.length);
-    for (uint8_t *before = base; before < block.data; before++) {
-        hold(*before == 0, "a byte before a lent buffer was written");
-    }
-    munmap(base, inside + paged(1));
-}
-
-static int same(const uint8_t *a, const uint8_t *b, size_t length) {
-    return memcmp(a, b, length) == 0;
-}
-
-/* whether every byte from `from` on is as it was filled */
-static int untouched(struct block block, size_t from) {
-    for (size_t i = from; i < block.length; i++) {
-        if (block.data[i] != FILL) {
-            return 0;
-        }
-    }
-    return 1;
-}
-
-/* ---- words of a line ---- */
-
-struct text {
-    const char *at;
-    const char *end;
-};
-
-/* the next word, up to a space or the end; 0 where the line has no more */
-static int next_word(struct text *line, struct text *word) {
-    if (line->at == NULL) {
-        return 0;
-    }
-    const char *stop = memchr(line->at, ' ', (size_t)(line->end - line->at));
-    word->at = line->at;
-    word->end = stop == NULL ? line->end : stop;
-    line->at = stop == NULL ? NULL : stop + 1;
-    return 1;
-}
-
-static int is_word(struct text word, const char *name) {
-    size_t length = strlen(name);
-    return (size_t)(word.end - word.at) == length && memcmp(word.at, name, length) == 0;
-}
-
-static int read_number(struct text *line, uint32_t most, uint32_t *number) {
-    struct text word;
-    uint64_t value = 0;
-    if (!next_word(line, &word) || word.at == word.end) {
-        return 0;
-    }
-    for (const char *c = word.at; c < word.end; c++) {
-        if (*c < '0' || *c > '9') {
-            return 0;
-        }
-        value = value * 10 + (uint64_t)(*c - '0');
-        if (value > most) {
-            return 0;
-        }
-    }
-    *number = (uint32_t)value;
-    return 1;
-}
-
-static int hex_digit(char c) {
-    if (c >= '0' && c <= '9') {
-        return c - '0';
-    }
-    return c >= 'a' && c <= 'f' ? c - 'a' + 10 : -1;
-}
-
-/* the last word as bytes; the caller frees them where this is 1 */
-static int read_bytes(struct text *line, struct block *bytes) {
-    struct text word;
-    if (!next_word(line, &word) || line->at != NULL) {
-        return 0;
-    }
-    if (is_word(word, "-")) {
-        *bytes = new_block(0, 0);
-        return 1;
-    }
-    size_t digits = (size_t)(word.end - word.at);
-    if (digits == 0 || digits % 2 != 0) {
-        return 0;
-    }
-    *bytes = new_block(digits / 2, 0);
-    for (size_t i = 0; i < digits; i += 2) {
-        int high = hex_digit(word.at[i]);
-        int low = hex_digit(word.at[i + 1]);
-        if (high < 0 || low < 0) {
-            free_block(*bytes);
-            return 0;
-        }
-        bytes->data[i / 2] = (uint8_t)(high * 16 + low);
-    }
-    return 1;
-}
-
-/* ---- answers ---- */
-
-static void print_bytes(const uint8_t *bytes, size_t length) {
-    if (length == 0) {
-        putchar('-');
-    }
-    for (size_t i = 0; i < length; i++) {
-        putchar("0123456789abcdef"[bytes[i] / 16]);
-        putchar("0123456789abcdef"[bytes[i] % 16]);
-    }
-    putchar('\n');
-}
-
-static uint32_t check_of(struct block block) {
-    uint32_t check = 7;
-    for (size_t i = 0; i < block.length; i++) {
-        check = check * 31u + block.data[i];
-    }
-    return check;
-}
-
-static int is_refusal(uint64_t result, uint32_t number) {
-    return tilambok_class(result) == TILAMBOK_REFUSED && tilambok_value(result) == number;
-}
+#include "../script.h"
 
 /* ---- the reader ---- */
 
@@ -248,7 +73,7 @@ static uint64_t read_frame(struct block bytes, uint8_t *fields) {
 
 static int answer_read(struct text *line) {
     struct block bytes;
-    if (!read_bytes(line, &bytes)) {
+    if (!read_last_bytes(line, &bytes)) {
         return 0;
     }
     uint8_t fields[TILAMBOK_FIELDS];
@@ -357,7 +182,7 @@ static int answer_write(struct text *line) {
     struct header h;
     uint32_t room;
     struct block payload, out;
-    if (!read_header(line, &h) || !read_number(line, LARGEST_OUT, &room) || !read_bytes(line, &payload)) {
+    if (!read_header(line, &h) || !read_number(line, LARGEST_OUT, &room) || !read_last_bytes(line, &payload)) {
         return 0;
     }
     uint64_t result = write_frame(h, h.flag, payload, room, &out);
@@ -377,18 +202,14 @@ static int answer_write(struct text *line) {
 
 /* ---- lines ---- */
 
-static void answer(const char *bytes, size_t length) {
-    struct text line = {bytes, bytes + length};
+static void answer(struct text *line) {
     struct text command;
-    if (length == 0 || bytes[0] == '#') {
-        return;
-    }
     int answered = 0;
-    if (length <= LONGEST_LINE && next_word(&line, &command)) {
+    if (next_word(line, &command)) {
         if (is_word(command, "read")) {
-            answered = answer_read(&line);
+            answered = answer_read(line);
         } else if (is_word(command, "write")) {
-            answered = answer_write(&line);
+            answered = answer_write(line);
         }
     }
     if (!answered) {
@@ -396,23 +217,6 @@ static void answer(const char *bytes, size_t length) {
     }
 }
 
-/* A line is kept up to one byte more than the longest, so that a longer one is known as such. */
 int main(void) {
-    static char line[LONGEST_LINE + 1];
-    size_t length = 0;
-    int c;
-    while ((c = getchar()) != EOF) {
-        if (c == '\n') {
-            line_number++;
-            answer(line, length);
-            length = 0;
-        } else if (length < sizeof line) {
-            line[length++] = (char)c;
-        }
-    }
-    if (length != 0) {
-        line_number++;
-        answer(line, length);
-    }
-    return 0;
+    return answer_lines(answer);
 }

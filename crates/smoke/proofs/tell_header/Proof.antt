@@ -1,0 +1,31 @@
+-- `smoke::tell_header` meets its contract.
+-- Assumes nothing.
+use lib.ListN.{length}
+use native.Mathlib.Omega.{arith}
+use borrow.Author.Tests.{le-leb, lt-leb}
+use Rattle.smoke.specs.Smoke.{told}
+use Rattle.smoke.proofs.Outcomes.{header-told}
+use borrow.Author.Needs.{needs}
+use Rattle.smoke.proofs.tell_header.Statement.{statement}
+use Rattle.smoke.proofs.tell_header.Tie as tie
+
+returns : tie.Need-returns
+unfolding told
+returns c = rw ((c .refused .ensures), lt-leb 16 (length (c .before .before .before .before .args .fields .now)) (omega arith))
+
+put-fields-requires : tie.Need-put-fields-requires
+put-fields-requires c κs = ((c .before .before .before .before .pre) .long, (omega arith, (c .before .before .before .before .pre) .id))
+
+returns-2 : tie.Need-returns-2
+unfolding told
+returns-2 c = rw ((c .done .ensures), (c .before .before .before .put-fields .ensures), header-told (c .before .before .before .before .before .before .before .before .args .payload .now) (c .before .before .before .before .before .before .before .before .args .f) (c .before .before .before .before .before .before .before .before .pre), le-leb 16 (length (c .before .before .before .before .before .before .before .before .args .fields .now)) (omega arith))
+
+pub tell-header-spec : {M : Type 1} → statement M
+tell-header-spec =
+    tie.close
+    (tie.spec
+    (λ c κs. search needs)  -- refused-requires
+    returns
+    put-fields-requires
+    (λ c κs. search needs) (λ c. search needs)  -- done-requires, same-length
+    returns-2)
