@@ -1,10 +1,11 @@
 -- The answers to the commands that need no link: docs/DRIVER.md, "command, answer". What the calls do is `readOf` (frame/specs/Read), `writeOf`
--- (frame/specs/Write), `sendOf` (sender/specs/Sender) and `payloadOf` (payload/specs/Walk). Assumes nothing.
+-- (frame/specs/Write), `sendOf` (sender/specs/Sender), `payloadOf` (payload/specs/Walk), and for what is inside messages rpc's
+-- own `readOf` (rpc/specs/Read) and `writeOf` (rpc/specs/Write). Assumes nothing.
 use Prim.Native.Nat.{ℕ, _-_, _%_}
 use mathlib.Core.Bool.{Bool, _||_}
 use mathlib.Core.List.{List, [], _∷_, _++_}
 use lib.Dec.{eqb}
-use lib.ListN.{length, take, getD, replicate}
+use lib.ListN.{length, take, drop, getD, replicate}
 use Rattle.numbers.specs.Bytes.{pick, part}
 use Rattle.lines.specs.Decimal.{decimalOf}
 use Rattle.text.specs.Pieces.{fitting, putInto, checkOf, digitsOf}
@@ -23,7 +24,16 @@ use Rattle.payload.specs.declared.Payload.the-variants as payload
 use Rattle.payload.specs.declared.StringTag.{StringTag}
 use Rattle.payload.specs.declared.Tags.{Tags}
 use Rattle.payload.specs.Walk.{payloadOf}
-use Rattle.driver.specs.Spelling.{Spelled, plain, withHex, lineOf, letterAnd, refusedText, numbersBy}
+use Rattle.rpc.specs.declared.Form.{Form}
+use Rattle.rpc.specs.declared.Form.the-variants.{Rpc, Bulk, Query}
+use Rattle.rpc.specs.declared.Fields.{Fields}
+use Rattle.rpc.specs.declared.Header as message
+use Rattle.rpc.specs.declared.Reading as parsed
+use Rattle.rpc.specs.declared.Reading.the-variants as messages
+use Rattle.rpc.specs.Layout as layout
+use Rattle.rpc.specs.Read as rpcRead
+use Rattle.rpc.specs.Write as rpcWrite
+use Rattle.driver.specs.Spelling.{Spelled, plain, withHex, lineOf, partsLine, letterAnd, refusedText, numbersBy}
 
 -- the numbers of a command, as many bits as the call takes
 abbrev pub byteAt : Command → ℕ → ℕ
@@ -105,11 +115,29 @@ outgoingOf c =
       chunk = wideAt c 4;
     }
 
--- both leave an answer and the out buffer
+-- ---- rpcwrite FORM version type function correlation size OUTLEN JSON BULK
+
+-- "FORM is `rpc`, `bulk` or `query`": words has 0, 1 or 2 for them
+abbrev pub formAt : Command → Form
+formAt c = pick (eqb (byteAt c 0) 0) Rpc (pick (eqb (byteAt c 0) 1) Bulk Query)
+
+-- "For `query` function is the query's id and correlation its sequence number"
+abbrev pub fieldsAt : Command → Fields
+fieldsAt c = record { kind = byteAt c 2; id = wideAt c 3; number = wideAt c 4; size = wideAt c 5 }
+
+abbrev pub messageHeader : Command → message.Header
+messageHeader c = layout.headerOf (formAt c) (fieldsAt c)
+
+-- the bytes of the first word are JSON, those of the second bulk data
+abbrev pub rpcWroteBy : Command → List ℕ → List ℕ → Wrote
+rpcWroteBy c input out = rpcWrite.writeOf (byteAt c 1) (messageHeader c) (wideAt c 5) (take (c .first) input) (drop (c .first) input) out
+
+-- the three leave an answer and the out buffer
 abbrev pub wroteBy : Command → List ℕ → List ℕ → Wrote
 wroteBy c input out =
     pick (eqb (c .kind) 2) (writeOf (headerOf c) input out)
-    (sendOf (outgoingOf c) (wideAt c 5) input out)
+    (pick (eqb (c .kind) 9) (rpcWroteBy c input out)
+    (sendOf (outgoingOf c) (wideAt c 5) input out))
 
 -- "B n CHECK HEX: bytes written, the check of the whole out buffer, the bytes written", or "R n"
 abbrev pub writtenLine : Written → List ℕ → Spelled
@@ -119,7 +147,7 @@ writtenLine (written.Refused n) out = plain (refusedText n)
 abbrev pub filledBy : Wrote → Filled
 filledBy w = filled (writtenLine (w .answer) (w .out)) (w .out)
 
--- the three commands that take an out buffer
+-- the four commands that take an out buffer
 unfoldable pub filledOf : Command → List ℕ → List ℕ → Filled
 filledOf c input out =
     pick (eqb (c .kind) 1) (readBy input out (readOf input))
@@ -156,14 +184,36 @@ lineIn f = lineOf (f .line) (f .out)
 abbrev pub plainLine : List ℕ → List ℕ
 plainLine s = lineOf (plain s) []
 
--- whether a command takes an out buffer: `read`, `write`, `send`
+-- ---- rpc FORM version HEX
+
+-- "P type function correlation size"
+abbrev pub fieldsText : Fields → List ℕ
+fieldsText f = (80 ∷ []) ++ numbersBy 32 (f .kind ∷ f .id ∷ f .number ∷ f .size ∷ [])
+
+-- "P - - - -"
+abbrev pub bareText : List ℕ
+bareText = 80 ∷ 32 ∷ 45 ∷ 32 ∷ 45 ∷ 32 ∷ 45 ∷ 32 ∷ 45 ∷ []
+
+-- "P type function correlation size JSON BULK", "at version 1 the form `rpc` reads as `P - - - - JSON -`", or "R n"
+abbrev pub rpcBy : List ℕ → parsed.Reading → List ℕ
+rpcBy payload (messages.Message h size p) = partsLine (fieldsText (layout.fieldsOf h size)) payload p
+rpcBy payload (messages.Bare p) = partsLine bareText payload p
+rpcBy payload (messages.Refused n) = plainLine (refusedText n)
+
+abbrev pub rpcAnswer : Command → List ℕ → List ℕ
+rpcAnswer c input = rpcBy input (rpcRead.readOf (formAt c) (byteAt c 1) input)
+
+-- ---- any command
+
+-- whether a command takes an out buffer: `read`, `write`, `send`, `rpcwrite`
 abbrev pub fills : ℕ → Bool
-fills kind = eqb kind 1 || eqb kind 2 || eqb kind 3
+fills kind = eqb kind 1 || eqb kind 2 || eqb kind 3 || eqb kind 9
 
 -- "exactly one line for each, none for an empty line or one that begins with `#`", and "`?`" for one that is none of these commands
 unfoldable pub answerTo : Command → List ℕ → List ℕ
 answerTo c input =
     pick (eqb (c .kind) 7) []
     (pick (eqb (c .kind) 4) (plainLine (payloadText input (payloadOf input)))
+    (pick (eqb (c .kind) 8) (rpcAnswer c input)
     (pick (fills (c .kind)) (lineIn (filledOf c input (lentOut c)))
-    (plainLine (63 ∷ []))))
+    (plainLine (63 ∷ [])))))

@@ -1,4 +1,5 @@
--- The line that answers a command: characters, and among them the digits of bytes that stand at the front of the out buffer; docs/DRIVER.md.
+-- The line that answers a command: characters, and among them the digits of bytes that stand at the front of the out buffer, or behind them two words of
+-- bytes; docs/DRIVER.md.
 -- A character is its number, as 'A' is 65. A text has room for 4,096 characters, and is cut there. Assumes nothing.
 use Prim.Native.Nat.{ℕ, _-_, _≤_, min}
 use mathlib.Core.Path.{_≡_}
@@ -10,6 +11,8 @@ use Rattle.lines.specs.Hex.{hexOf}
 use Rattle.lines.specs.Decimal.{decimalOf}
 use Rattle.text.specs.declared.Text.{Text}
 use Rattle.text.specs.Said.{said}
+use Rattle.rpc.specs.declared.Parts.{Parts}
+use Rattle.rpc.specs.Read.{jsonPart, bulkPart}
 
 -- characters, the digits of so many bytes, and characters behind them
 pub record Spelled : Type 0 where
@@ -55,6 +58,20 @@ brokenAt cut digits s = take cut s ++ (digits ++ drop cut s)
 
 abbrev pub textLine : Text → List ℕ → List ℕ
 textLine t out = brokenAt (t .cut) (digitsIn (t .size) out) (take 4096 (said t ++ 10 ∷ []))
+
+-- ---- a line that ends with two words of bytes
+
+-- bytes as a word behind a space: "`-` stands for no bytes"
+abbrev pub wordText : List ℕ → List ℕ
+wordText bytes = 32 ∷ pick (eqb (length bytes) 0) (45 ∷ []) (hexOf bytes)
+
+-- JSON and bulk data of a payload behind some characters
+abbrev pub partsBehind : List ℕ → List ℕ → Parts → List ℕ
+partsBehind s payload p = s ++ (wordText (jsonPart payload p) ++ (wordText (bulkPart payload p) ++ 10 ∷ []))
+
+-- the characters are cut where a text is full; a line says at most 150,000 bytes, so no payload of a line is cut
+abbrev pub partsLine : List ℕ → List ℕ → Parts → List ℕ
+partsLine s payload p = partsBehind (take 4096 s) (take 150000 payload) p
 
 -- ---- parts of a line
 

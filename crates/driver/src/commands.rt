@@ -8,7 +8,8 @@ ghost use Rattle.frame.specs.Write.{wrote};
 ghost use Rattle.payload.specs.Walk.{payloadOf};
 ghost use Rattle.text.specs.Said.{Started, Longer};
 ghost use Rattle.driver.specs.Spelling.{Holds, numbersBy};
-ghost use Rattle.driver.specs.Answers.{headerNumbers, frameLine, readBy, headerOf, outgoingOf, wroteBy, writtenLine, filledOf, tagText, versionText, tagsText, payloadText, lineIn, lentOut, answerTo};
+ghost use Rattle.driver.specs.Answers.{headerNumbers, frameLine, readBy, headerOf, outgoingOf, wroteBy, writtenLine, filledOf, tagText, versionText, tagsText, payloadText, lineIn, lentOut, fills as takesOut, answerTo};
+use crate::messages;
 use crate::output;
 use frame::Header;
 use frame::MessageId;
@@ -104,11 +105,15 @@ fn written_text(written: Written, out: &[u8]) -> Text
 
 // write version flag type service info session size id OUTLEN HEX
 // send version service session id chunk k OUTLEN HEX
+// rpcwrite FORM version type function correlation size OUTLEN JSON BULK
 fn write(command: Command, input: &[u8], out: &mut [u8]) -> Written
     ensures { λ r. ⌜ wrote r (now (out .exit)) ≡ wroteBy command (now (input .entry)) (now (out .entry)) ⌝ }
 {
     if command.kind == words::WRITE {
         return frame::write(header_of(command), input, out);
+    }
+    if command.kind == words::RPCWRITE {
+        return messages::write(command, input, out);
     }
     sender::send(outgoing_of(command), command.wide(5), input, out)
 }
@@ -190,6 +195,16 @@ fn fill(command: Command, input: &[u8], line: &mut [u8; ROOM]) -> usize
     fill_into(command, input, &mut out[0..lent], line)
 }
 
+// Whether a command takes an out buffer.
+fn fills(kind: u8) -> bool
+    ensures { λ r. ⌜ r ≡ takesOut kind ⌝ }
+{
+    (kind == words::READ)
+        | (kind == words::WRITE)
+        | (kind == words::SEND)
+        | (kind == words::RPCWRITE)
+}
+
 // Carries out a command and spells its answer at the front of `line`. Answers how long that is.
 pub fn obey(command: Command, input: &[u8], line: &mut [u8; ROOM]) -> usize
     ensures { λ r. ⌜ take r (now (line .exit)) ≡ answerTo command (now (input .entry)) ⌝ }
@@ -201,7 +216,10 @@ pub fn obey(command: Command, input: &[u8], line: &mut [u8; ROOM]) -> usize
     if kind == words::PAYLOAD {
         return output::lay_plain(read_payload(input), line);
     }
-    if (kind == words::READ) | (kind == words::WRITE) | (kind == words::SEND) {
+    if kind == words::RPC {
+        return messages::read(command, input, line);
+    }
+    if fills(kind) {
         return fill(command, input, line);
     }
     output::lay_plain(Text::empty().byte(b'?'), line)

@@ -1,8 +1,9 @@
 // The driver: reads lines from standard input and answers each on standard output, as docs/DRIVER.md says.
 // This file holds the buffers and the gathering of lines. It assumes nothing of the input: bytes of any kind and any number.
-// The library `words` reads a line's words; commands.rt and calls.rt make the calls; the library `text`, sessions.rt and output.rt spell the answers.
+// The library `words` reads a line's words; commands.rt, messages.rt and calls.rt make the calls; the library `text`, sessions.rt and output.rt spell the answers.
 mod calls;
 mod commands;
+mod messages;
 mod output;
 mod sessions;
 
@@ -13,14 +14,12 @@ ghost use Rattle.driver.specs.Input.{gathered, partTaken, begunOf, noInp
 use calls::Turn;
 use calls::Unit;
 use libc::STDIN_FILENO;
+use output::CONTENT;
 use output::ROOM;
 use words::Command;
 
 // A line of 300,000 bytes, and one byte more to tell a longer one.
 const LINE: usize = 300001;
-
-// A byte takes two digits, so a line says fewer.
-const CONTENT: usize = 150000;
 
 // The bytes of a piece of the input, and of the pool.
 const PIECE: usize = 65536;
@@ -104,14 +103,14 @@ fn line_length(input: Input) -> usize
     0
 }
 
-// What the line says. Its last word's bytes go to the front of `content`.
+// What the line says. Its last words' bytes go to the front of `content`.
 fn command_of(input: Input, line: &[u8; LINE], content: &mut [u8; CONTENT]) -> Command
     ensures { λ r. ⌜ leaving r (now (content .exit)) ≡ spokenLine input (now (line .entry)) (now (content .entry)) ⌝ }
 {
     words::command_of(text::front(line, line_length(input)), content)
 }
 
-// Carries out a command and spells its answer at the front of `line`. Its last word's bytes stand at the front of `content`.
+// Carries out a command and spells its answer at the front of `line`. Its last words' bytes stand at the front of `content`.
 fn obey(
     unit: Unit,
     command: Command,

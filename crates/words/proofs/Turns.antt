@@ -1,23 +1,28 @@
--- Lists compared, the rest of a line, numbers read one by one, and what decoding the last word leaves. By the laws of take and drop and by induction over
+-- Lists compared, the rest of a line, numbers read one by one, and what decoding the last word or the last two leaves. By the laws of take and drop and by induction over
 -- lists. Assumes nothing.
-use Prim.Native.Nat.{ℕ, suc, _+_, _-_, _≤_, _<_, min}
-use mathlib.Core.Path.{_≡_, refl, ap, _∙_, sym}
-use mathlib.Core.Bool.{Bool, true, false, _&&_}
-use mathlib.Core.List.{List, [], _∷_}
+use Prim.Native.Nat.{ℕ, suc, _+_, _-_, _/_, _%_, _≤_, _<_, min}
+use mathlib.Core.Path.{_≡_, refl, ap, _∙_, sym, subst}
+use mathlib.Core.Bool.{Bool, true, false, not, _&&_}
+use mathlib.Core.List.{List, [], _∷_, _++_, append-nil}
 use native.Mathlib.Omega.{arith}
-use lib.Dec.{eqb}
-use lib.ListN.{length, take, drop, getD, length-take, drop-of-length-le}
+use lib.Dec.{eqb, ltb}
+use lib.ListN.{length, take, drop, getD, length-take, length-drop, drop-of-length-le}
 use lib.Seq.{drop-cons, getD-take}
-use borrow.Author.Tests.{eq-eqb, eqb-true}
+use borrow.Author.Tests.{eq-eqb, eqb-true, ltb-false}
+use borrow.Rule.Slice.PartMut.{putMid}
+use Rattle.numbers.specs.Bytes.{pick, part, laid}
+use Rattle.numbers.proofs.Choices.{either}
 use Rattle.numbers.proofs.Slices.{rest-lent}
 use Rattle.lines.specs.declared.Decoded.{Decoded}
+use Rattle.lines.specs.declared.Decoded.the-variants.{Bytes, Odd, NotHex, Full}
 use Rattle.lines.specs.Text.{every}
-use Rattle.lines.specs.Hex.{Decoding, decoded, decodeOf, isLowerHex}
+use Rattle.lines.specs.Hex.{Decoding, decoded, decodeOf, bytesOf, isHex, isLowerHex}
 use Rattle.lines.proofs.Turns.{both}
 use Rattle.text.proofs.Lists.{take-min, drop-min}
 use Rattle.words.specs.declared.Numbers.{Numbers}
-use Rattle.words.specs.Words.{sameBytes, between, wordAt, withWord, numbersFrom}
-use Rattle.words.specs.Lines.{leaves, lastBy, decodedWord, hexWord}
+use Rattle.words.specs.declared.Last.{Last}
+use Rattle.words.specs.Words.{sameBytes, wordEnd, between, wordAt, withWord, numbersFrom}
+use Rattle.words.specs.Lines.{LastLeft, leaves, lastBy, decodedWord, hexWord, secondAfter, withSecond, twoWords}
 
 same-self : (a : List ℕ) → sameBytes a a ≡ true
 same-self [] = refl
@@ -81,3 +86,44 @@ pub decoded-is : (word content : List ℕ) {after : List ℕ} {a : Decoded} {low
 unfolding hexWord
 decoded-is word content {after} {a} {lower} s e d =
     rw s (ap (λ (b : Bool). leaves (lastBy b a) after) e ∙ ap (decodedWord (every isLowerHex word)) d)
+
+-- a word's bytes have room in the buffer
+decoded-within : (lower : Bool) (word content : List ℕ) → decodedWord lower (decodeOf word content) .last .count ≤ length content
+unfolding decodeOf
+decoded-within lower word content =
+    let P : Decoding → Type 0 = λ d. decodedWord lower d .last .count ≤ length content in
+    let n = length word / 2 in
+    let whole = decoded (Bytes n) (laid (bytesOf word) content) in
+    let fitting = pick (ltb (length content) n) (decoded Full content) whole in
+    either P (eqb (length word % 2) 1) (decoded Odd content) (pick (not (every isHex word)) (decoded NotHex content) fitting) (λ e. omega arith) λ e.
+    either P (not (every isHex word)) (decoded NotHex content) fitting (λ f. omega arith) λ f.
+    either P (ltb (length content) n) (decoded Full content) whole (λ g. omega arith) λ g.
+    omega (arith, ltb-false (length content) n g)
+
+word-within : (word content : List ℕ) → hexWord word content .last .count ≤ length content
+unfolding hexWord
+word-within word content =
+    let lower = every isLowerHex word in
+    either (λ (l : LastLeft). l .last .count ≤ length content) (sameBytes word (45 ∷ [])) (leaves (record { good = true; first = 0; count = 0 }) content)
+    (decodedWord lower (decodeOf word content)) (λ e. omega arith) λ e.
+    decoded-within lower word content
+
+pub within : (word content : List ℕ) {after : List ℕ} {l : Last} → leaves l after ≡ hexWord word content → l .count ≤ length content
+within word content e = subst (λ (l : LastLeft). l .last .count ≤ length content) (sym e) (word-within word content)
+
+-- two words, of which the second goes to what the first left of the buffer
+module _ (line content : List ℕ) (end : ℕ) {m : ℕ} (middle : m ≡ wordEnd line end) {v w : List ℕ} (near : v ≡ between line end m) (far : w ≡ between line m (length line)) where
+  pub two-are : {a b : Last} {p q r : List ℕ} → leaves a p ≡ hexWord v content → leaves b q ≡ hexWord w (part p (a .count) (length p - a .count))
+      → r ≡ putMid (a .count) (length p - a .count) p q
+      → leaves (record { good = a .good && b .good; first = a .count; count = a .count + b .count }) r ≡ twoWords line end content
+  unfolding twoWords
+  two-are {a} {b} {p} {q} {r} e f g =
+      let n = a .count in
+      let nothing = drop-of-length-le (drop n p) {i = length p - n} (omega (arith, length-drop n p)) in
+      let left : r ≡ take n p ++ q = g ∙ rw (nothing, append-nil) in
+      ap (leaves (record { good = a .good && b .good; first = n; count = n + b .count })) left
+      ∙ ap (secondAfter (leaves a p)) (f ∙ ap (hexWord w) (rest-lent p n))
+      ∙ ap (withSecond w) e
+      ∙ ap (λ (x : List ℕ). withSecond x (hexWord v content)) far
+      ∙ ap (λ (x : List ℕ). withSecond (between line m (length line)) (hexWord x content)) near
+      ∙ ap (λ (i : ℕ). withSecond (between line i (length line)) (hexWord (between line end i) content)) middle

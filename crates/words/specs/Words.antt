@@ -42,9 +42,20 @@ wordOf most end (Value v) = record { good = leb v most; value = v; end = end }
 wordOf most end NotDecimal = record { good = false; value = 0; end = end }
 wordOf most end TooLarge = record { good = false; value = 0; end = end }
 
+-- "FORM is `rpc`, `bulk` or `query`": 0, 1 or 2
+unfoldable pub formWord : ℕ → List ℕ → Word
+formWord end word =
+    pick (sameBytes word (114 ∷ 112 ∷ 99 ∷ [])) (record { good = true; value = 0; end = end })
+    (pick (sameBytes word (98 ∷ 117 ∷ 108 ∷ 107 ∷ [])) (record { good = true; value = 1; end = end })
+    (record { good = sameBytes word (113 ∷ 117 ∷ 101 ∷ 114 ∷ 121 ∷ []); value = 2; end = end }))
+
+-- a word that ends at a position, as a number: where its limit is 2 it names a form
+abbrev pub readWord : ℕ → ℕ → List ℕ → Word
+readWord most end word = pick (eqb most 2) (formWord end word) (wordOf most end (numberOf word))
+
 -- the word behind a space as a number
 abbrev pub wordAt : List ℕ → ℕ → ℕ → Word
-wordAt line space most = wordOf most (wordEnd line space) (numberOf (between line space (wordEnd line space)))
+wordAt line space most = readWord most (wordEnd line space) (between line space (wordEnd line space))
 
 -- numbers so far, with a word as number i
 abbrev pub withWord : Numbers → ℕ → Word → Numbers
@@ -82,6 +93,14 @@ writeForm = record { kind = 2; count = 9; most = 255 ∷ 1 ∷ 255 ∷ 255 ∷ 2
 abbrev pub sendForm : Form
 sendForm = record { kind = 3; count = 7; most = 255 ∷ 255 ∷ 255 ∷ 4294967295 ∷ 4294967295 ∷ 4294967295 ∷ 131084 ∷ 0 ∷ 0 ∷ [] }
 
+-- "rpc FORM version HEX": "version and type are bytes, function, correlation and size 32 bits"
+abbrev pub rpcForm : Form
+rpcForm = record { kind = 8; count = 2; most = 2 ∷ 255 ∷ 0 ∷ 0 ∷ 0 ∷ 0 ∷ 0 ∷ 0 ∷ 0 ∷ [] }
+
+-- "rpcwrite FORM version type function correlation size OUTLEN JSON BULK"
+abbrev pub rpcwriteForm : Form
+rpcwriteForm = record { kind = 9; count = 7; most = 2 ∷ 255 ∷ 255 ∷ 4294967295 ∷ 4294967295 ∷ 4294967295 ∷ 131084 ∷ 0 ∷ 0 ∷ [] }
+
 -- the commands "new" and "call", else none: 0
 unfoldable pub linkFormOf : List ℕ → Form
 linkFormOf name =
@@ -89,11 +108,18 @@ linkFormOf name =
     (pick (sameBytes name (99 ∷ 97 ∷ 108 ∷ 108 ∷ [])) callForm
     (plainForm 0))
 
--- the commands "read", "write", "send", "payload", and those with a link
+-- the commands "rpc" and "rpcwrite", and those with a link
+unfoldable pub rpcFormOf : List ℕ → Form
+rpcFormOf name =
+    pick (sameBytes name (114 ∷ 112 ∷ 99 ∷ [])) rpcForm
+    (pick (sameBytes name (114 ∷ 112 ∷ 99 ∷ 119 ∷ 114 ∷ 105 ∷ 116 ∷ 101 ∷ [])) rpcwriteForm
+    (linkFormOf name))
+
+-- the commands "read", "write", "send", "payload", and the others
 unfoldable pub formOf : List ℕ → Form
 formOf name =
     pick (sameBytes name (114 ∷ 101 ∷ 97 ∷ 100 ∷ [])) (plainForm 1)
     (pick (sameBytes name (119 ∷ 114 ∷ 105 ∷ 116 ∷ 101 ∷ [])) writeForm
     (pick (sameBytes name (115 ∷ 101 ∷ 110 ∷ 100 ∷ [])) sendForm
     (pick (sameBytes name (112 ∷ 97 ∷ 121 ∷ 108 ∷ 111 ∷ 97 ∷ 100 ∷ [])) (plainForm 4)
-    (linkFormOf name))))
+    (rpcFormOf name))))

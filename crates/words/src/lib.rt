@@ -1,4 +1,4 @@
-// The words of a line of docs/DRIVER.md: the command that the first one names, its numbers, and the bytes of the last word. It makes no call and knows no
+// The words of a line of docs/DRIVER.md: the command that the first one names, its numbers, and the bytes of the last word or the last two. It makes no call and knows no
 // rule of the protocol: the limits are those of the words. Every line and every buffer is taken.
 // One space stands between two words: a space too many makes an empty word, which is neither a number nor hexadecimal.
 // A word is named by the positions of the spaces around it; the line's length stands for a space behind the last word.
@@ -6,8 +6,8 @@ ghost use Prim.Native.Nat.{_%_};
 ghost use mathlib.Core.Path.{_≡_};
 ghost use lib.ListN.{getD};
 ghost use Rattle.lines.specs.Decimal.{numberOf};
-ghost use Rattle.words.specs.Words.{sameBytes, isSilent, wordEnd, between as betweenOf, wordOf, wordAt, numbersOf, plainForm, linkFormOf, formOf};
-ghost use Rattle.words.specs.Lines.{leaves, hexWord, lastOf, bareCommand, wholeOf, leaving, commandOf};
+ghost use Rattle.words.specs.Words.{sameBytes, isSilent, wordEnd, between as betweenOf, wordOf, formWord, wordAt, numbersOf, plainForm, linkFormOf, rpcFormOf, formOf};
+ghost use Rattle.words.specs.Lines.{leaves, hexWord, twoWords, lastOf, bareCommand, wholeOf, leaving, commandOf};
 use lines::Decoded;
 use lines::Number;
 use text::front;
@@ -30,6 +30,10 @@ pub const CALL: u8 = 6;
 
 pub const SILENT: u8 = 7;
 
+pub const RPC: u8 = 8;
+
+pub const RPCWRITE: u8 = 9;
+
 // A line has no more numbers.
 const NUMBERS: usize = 9;
 
@@ -44,11 +48,16 @@ const WIDE: u64 = 4294967295;
 
 const OUTLEN: u64 = 131084;
 
-// What a line says: a command, its numbers, the last of them, which is the length of the out buffer where there is one, and how many bytes its last word says.
+// A word with this limit is the name of one of three forms, which stands for a number: 0 `rpc`, 1 `bulk`, 2 `query`.
+const FORM: u64 = 2;
+
+// What a line says: a command, its numbers, the last of them, which is the length of the out buffer where there is one, and how many bytes it says in all.
+// Where it has two words of bytes, `first` of these are the first one's.
 pub struct Command {
     pub kind: u8,
     pub values: [u64; NUMBERS],
     pub lent: u64,
+    pub first: usize,
     pub count: usize,
 }
 
@@ -74,9 +83,10 @@ struct Numbers {
     end: usize,
 }
 
-// How many bytes the last word says, if it can be read.
+// How many bytes the last word says, or the last two together, if they can be read; the first of two says `first`.
 struct Last {
     good: bool,
+    first: usize,
     count: usize,
 }
 
@@ -170,6 +180,29 @@ fn link_form(name: &[u8]) -> Form
     plain(UNREADABLE)
 }
 
+// The command that a word names, of those with what is inside messages, and those with a link.
+fn rpc_form(name: &[u8]) -> Form
+    ensures { λ r. ⌜ r ≡ rpcFormOf (now (name .entry)) ⌝ }
+{
+    if is(name, b"rpc") {
+        let most = [FORM, BYTE, 0, 0, 0, 0, 0, 0, 0];
+        return Form {
+            kind: RPC,
+            count: 2,
+            most,
+        };
+    }
+    if is(name, b"rpcwrite") {
+        let most = [FORM, BYTE, BYTE, WIDE, WIDE, WIDE, OUTLEN, 0, 0];
+        return Form {
+            kind: RPCWRITE,
+            count: 7,
+            most,
+        };
+    }
+    link_form(name)
+}
+
 // The command that a word names.
 fn form_of(name: &[u8]) -> Form
     ensures { λ r. ⌜ r ≡ formOf (now (name .entry)) ⌝ }
@@ -196,7 +229,7 @@ fn form_of(name: &[u8]) -> Form
     if is(name, b"payload") {
         return plain(PAYLOAD);
     }
-    link_form(name)
+    rpc_form(name)
 }
 
 // The decimal number that a word says, if it is at most `most`. The word ends at `end`.
@@ -222,11 +255,39 @@ fn number(word: &[u8], most: u64, end: usize) -> Word
     }
 }
 
+// The form that a word names, as a number.
+fn named(word: &[u8], end: usize) -> Word
+    ensures { λ r. ⌜ r ≡ formWord end (now (word .entry)) ⌝ }
+{
+    if is(word, b"rpc") {
+        return Word {
+            good: true,
+            value: 0,
+            end,
+        };
+    }
+    if is(word, b"bulk") {
+        return Word {
+            good: true,
+            value: 1,
+            end,
+        };
+    }
+    Word {
+        good: is(word, b"query"),
+        value: 2,
+        end,
+    }
+}
+
 // The word behind a space as a number.
 fn word_at(line: &[u8], space: usize, most: u64) -> Word
     ensures { λ r. ⌜ r ≡ wordAt (now (line .entry)) space most ⌝ }
 {
     let end = word_end(line, space);
+    if most == FORM {
+        return named(between(line, space, end), end);
+    }
     number(between(line, space, end), most, end)
 }
 
@@ -257,13 +318,14 @@ fn numbers_at(line: &[u8], space: usize, form: Form) -> Numbers
     }
 }
 
-// The last word, in lower-case hexadecimal or `-` for no bytes, as bytes to the front of `content`.
+// A word in lower-case hexadecimal, or `-` for no bytes, as bytes to the front of `content`.
 fn hex(word: &[u8], content: &mut [u8]) -> Last
     ensures { λ r. ⌜ leaves r (now (content .exit)) ≡ hexWord (now (word .entry)) (now (content .entry)) ⌝ }
 {
     if is(word, b"-") {
         return Last {
             good: true,
+            first: 0,
             count: 0,
         };
     }
@@ -271,32 +333,55 @@ fn hex(word: &[u8], content: &mut [u8]) -> Last
     match lines::hex_to_bytes(word, content) {
         Decoded::Bytes(count) => Last {
             good: (0 < count) & lower,
+            first: 0,
             count,
         },
         Decoded::Odd => Last {
             good: false,
+            first: 0,
             count: 0,
         },
         Decoded::NotHex => Last {
             good: false,
+            first: 0,
             count: 0,
         },
         Decoded::Full => Last {
             good: false,
+            first: 0,
             count: 0,
         },
     }
 }
 
-// What follows the numbers: nothing, or the last word. A word too many is refused too: it leaves a space within what is read here.
+// Two such words, the bytes of the second right behind those of the first.
+fn two_words(line: &[u8], end: usize, content: &mut [u8]) -> Last
+    ensures { λ r. ⌜ leaves r (now (content .exit)) ≡ twoWords (now (line .entry)) end (now (content .entry)) ⌝ }
+{
+    let middle = word_end(line, end);
+    let first = hex(between(line, end, middle), content);
+    let at = first.count;
+    let second = hex(between(line, middle, line.len()), &mut content[at..]);
+    Last {
+        good: first.good & second.good,
+        first: at,
+        count: at + second.count,
+    }
+}
+
+// What follows the numbers: nothing, the last word, or the last two. A word too many is refused too: it leaves a space within what is read here.
 fn last_word(line: &[u8], kind: u8, end: usize, content: &mut [u8]) -> Last
     ensures { λ r. ⌜ leaves r (now (content .exit)) ≡ lastOf (now (line .entry)) kind end (now (content .entry)) ⌝ }
 {
     if kind == NEW {
         return Last {
             good: end == line.len(),
+            first: 0,
             count: 0,
         };
+    }
+    if kind == RPCWRITE {
+        return two_words(line, end, content);
     }
     hex(between(line, end, line.len()), content)
 }
@@ -320,6 +405,7 @@ fn bare(kind: u8) -> Command
         kind,
         values,
         lent: 0,
+        first: 0,
         count: 0,
     }
 }
@@ -334,13 +420,14 @@ fn whole(kind: u8, numbers: Numbers, last: Last) -> Command
             kind,
             values,
             lent: numbers.lent,
+            first: last.first,
             count: last.count,
         };
     }
     bare(UNREADABLE)
 }
 
-// What a line says; the bytes of its last word go to the front of `content`.
+// What a line says; the bytes of its last word, or of its last two, go to the front of `content`.
 pub fn command_of(line: &[u8], content: &mut [u8]) -> Command
     ensures { λ r. ⌜ leaving r (now (content .exit)) ≡ commandOf (now (line .entry)) (now (content .entry)) ⌝ }
 {

@@ -24,7 +24,7 @@ returns-4 c = rw (sym (c .before .before .before .before .before .before .before
 
 returns-5 : tie.Need-returns-5
 unfolding formOf
-returns-5 c = rw (sym (c .before .before .before .before .before .before .before .before .before .before .before .is .ensures) ∙ (c .before .before .before .before .before .before .before .before .before .before .if1 .left), sym (c .before .before .before .before .before .before .before .before .is2 .ensures) ∙ (c .before .before .before .before .before .before .before .if2 .left), sym (c .before .before .before .before .before .is3 .ensures) ∙ (c .before .before .before .before .if3 .left), sym (c .before .before .is4 .ensures) ∙ (c .before .if4 .left)) (c .link-form .ensures)
+returns-5 c = rw (sym (c .before .before .before .before .before .before .before .before .before .before .before .is .ensures) ∙ (c .before .before .before .before .before .before .before .before .before .before .if1 .left), sym (c .before .before .before .before .before .before .before .before .is2 .ensures) ∙ (c .before .before .before .before .before .before .before .if2 .left), sym (c .before .before .before .before .before .is3 .ensures) ∙ (c .before .before .before .before .if3 .left), sym (c .before .before .is4 .ensures) ∙ (c .before .if4 .left)) (c .rpc-form .ensures)
 
 pub form-of-spec : {M : Type 1} → statement M
 form-of-spec =
@@ -38,5 +38,5 @@ form-of-spec =
     returns-3
     (λ c. search needs) (λ c κs. search needs) (λ c κs. search needs)  -- slice-aggregate-is-4, is-requires-4, plain-requires-2
     returns-4
-    (λ c κs. search needs)  -- link-form-requires
+    (λ c κs. search needs)  -- rpc-form-requires
     returns-5)

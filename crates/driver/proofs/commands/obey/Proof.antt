@@ -1,6 +1,6 @@
 -- `driver::commands::obey` meets its contract, by the command's kind.
 -- Assumes nothing.
-use mathlib.Core.Path.{refl, _∙_}
+use mathlib.Core.Path.{refl, _∙_, sym}
 use mathlib.Core.List.{[]}
 use borrow.Author.Tests.{eq-eqb, ne-eqb}
 use Rattle.driver.specs.Answers.{answerTo}
@@ -24,13 +24,19 @@ returns-3 : tie.Need-returns-3
 unfolding answerTo
 returns-3 c =
     let k = c .before .before .before .before .before .before .args .command .kind in
-    rw (ne-eqb k 7 (c .before .before .before .before .if1 .left), ne-eqb k 4 (c .before .before .before .if2 .left), (c .before .before .if3 .taken)) (c .fill .ensures)
+    rw (ne-eqb k 7 (c .before .before .before .before .if1 .left), ne-eqb k 4 (c .before .before .before .if2 .left), eq-eqb k 8 (c .before .before .if3 .taken)) (c .read .ensures)
 
 returns-4 : tie.Need-returns-4
 unfolding answerTo
 returns-4 c =
     let k = c .before .before .before .before .before .before .before .before .args .command .kind in
-    rw (ne-eqb k 7 (c .before .before .before .before .before .before .if1 .left), ne-eqb k 4 (c .before .before .before .before .before .if2 .left), (c .before .before .before .before .if3 .left)) (c .lay-plain2 .ensures ∙ line-held (held (started (c .before .before .before .empty .ensures) (c .before .before .byte .ensures))) [])
+    rw (ne-eqb k 7 (c .before .before .before .before .before .before .if1 .left), ne-eqb k 4 (c .before .before .before .before .before .if2 .left), ne-eqb k 8 (c .before .before .before .before .if3 .left), sym (c .before .before .before .fills .ensures) ∙ c .before .before .if4 .taken) (c .fill .ensures)
+
+returns-5 : tie.Need-returns-5
+unfolding answerTo
+returns-5 c =
+    let k = c .before .before .before .before .before .before .before .before .before .before .args .command .kind in
+    rw (ne-eqb k 7 (c .before .before .before .before .before .before .before .before .if1 .left), ne-eqb k 4 (c .before .before .before .before .before .before .before .if2 .left), ne-eqb k 8 (c .before .before .before .before .before .before .if3 .left), sym (c .before .before .before .before .before .fills .ensures) ∙ c .before .before .before .before .if4 .left) (c .lay-plain2 .ensures ∙ line-held (held (started (c .before .before .before .empty .ensures) (c .before .before .byte .ensures))) [])
 
 pub obey-spec : {M : Type 1} → statement M
 obey-spec =
@@ -39,7 +45,9 @@ obey-spec =
     returns
     (λ c κs. search needs) (λ c κs. search needs)  -- read-payload-requires, lay-plain-requires
     returns-2
-    (λ c κs. search needs)  -- fill-requires
+    (λ c κs. search needs)  -- read-requires
     returns-3
+    (λ c κs. search needs) (λ c κs. search needs)  -- fills-requires, fill-requires
+    returns-4
     (λ c κs. search needs) (λ c κs. search needs) (λ c κs. search needs)  -- empty-requires, byte-requires, lay-plain-requires-2
-    returns-4)
+    returns-5)

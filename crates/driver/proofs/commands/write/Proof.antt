@@ -1,4 +1,4 @@
--- `driver::commands::write` meets its contract, by whether the command is `write`.
+-- `driver::commands::write` meets its contract, by the command.
 -- Assumes nothing.
 use mathlib.Core.Path.{ap, _∙_}
 use borrow.Author.Tests.{eq-eqb, ne-eqb}
@@ -18,8 +18,13 @@ returns c =
 returns-2 : tie.Need-returns-2
 returns-2 c =
     let a = c .before .before .before .before .before .before .before .before .before .before .args in
+    rw (ne-eqb (a .command .kind) 2 (c .before .before .before .before .before .before .if1 .left), eq-eqb (a .command .kind) 9 (c .before .before .before .before .if2 .taken)) (c .before .before .write2 .ensures)
+
+returns-3 : tie.Need-returns-3
+returns-3 c =
+    let a = c .before .before .before .before .before .before .before .before .before .before .before .before .args in
     let k = c .before .before .before .before .wide .result in
-    rw (ne-eqb (a .command .kind) 2 (c .before .before .before .before .before .before .if1 .left)) (c .before .before .send .ensures ∙ ap (λ (o : Outgoing). sendOf o k (a .input .now) (a .out .now)) (c .before .before .before .before .before .outgoing-of .ensures) ∙ rw (c .before .before .before .before .wide .ensures))
+    rw (ne-eqb (a .command .kind) 2 (c .before .before .before .before .before .before .before .before .if1 .left), ne-eqb (a .command .kind) 9 (c .before .before .before .before .before .before .if2 .left)) (c .before .before .send .ensures ∙ ap (λ (o : Outgoing). sendOf o k (a .input .now) (a .out .now)) (c .before .before .before .before .before .outgoing-of .ensures) ∙ rw (c .before .before .before .before .wide .ensures))
 
 pub write-spec : {M : Type 1} → statement M
 write-spec =
@@ -27,5 +32,7 @@ write-spec =
     (tie.spec
     (λ c κs. search needs) (λ c κs. search needs) (λ c. search needs)  -- header-of-requires, write-requires, same-length
     returns
-    (λ c κs. search needs) (λ c κs. search needs) (λ c κs. search needs) (λ c. search needs)  -- outgoing-of-requires, wide-requires, send-requires, same-length-2
-    returns-2)
+    (λ c κs. search needs) (λ c. search needs)  -- write-requires-2, same-length-2
+    returns-2
+    (λ c κs. search needs) (λ c κs. search needs) (λ c κs. search needs) (λ c. search needs)  -- outgoing-of-requires, wide-requires, send-requires, same-length-3
+    returns-3)

@@ -1,0 +1,26 @@
+-- `driver::messages::form_of` meets its contract, by the number that stands for the form.
+-- Assumes nothing.
+use mathlib.Core.Path.{_∙_, sym}
+use borrow.Author.Tests.{eq-eqb, ne-eqb}
+use Rattle.driver.specs.Answers.{byteAt}
+use borrow.Author.Needs.{needs}
+use Rattle.driver.proofs.messages.form_of.Statement.{statement}
+use Rattle.driver.proofs.messages.form_of.Tie as tie
+
+returns : tie.Need-returns
+returns c = rw (eq-eqb (byteAt (c .before .before .args .command) 0) 0 (sym (c .before .byte .ensures) ∙ (c .if1 .taken)))
+
+returns-2 : tie.Need-returns-2
+returns-2 c = rw (ne-eqb (byteAt (c .before .before .before .args .command) 0) 0 (λ e. (c .before .if1 .left) ((c .before .before .byte .ensures) ∙ e)), eq-eqb (byteAt (c .before .before .before .args .command) 0) 1 (sym (c .before .before .byte .ensures) ∙ (c .if2 .taken)))
+
+returns-3 : tie.Need-returns-3
+returns-3 c = rw (ne-eqb (byteAt (c .before .before .before .args .command) 0) 0 (λ e. (c .before .if1 .left) ((c .before .before .byte .ensures) ∙ e)), ne-eqb (byteAt (c .before .before .before .args .command) 0) 1 (λ e. (c .if2 .left) ((c .before .before .byte .ensures) ∙ e)))
+
+pub form-of-spec : {M : Type 1} → statement M
+form-of-spec =
+    tie.close
+    (tie.spec
+    (λ c κs. search needs)  -- byte-requires
+    returns
+    returns-2
+    returns-3)

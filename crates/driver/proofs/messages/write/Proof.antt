@@ -1,0 +1,19 @@
+-- `driver::messages::write` meets its contract: the bytes of the two words, and the numbers as the definition has them.
+-- Assumes nothing.
+use Rattle.driver.proofs.Answers.{rpc-wrote}
+use borrow.Author.Needs.{needs}
+use Rattle.driver.proofs.messages.write.Statement.{statement}
+use Rattle.driver.proofs.messages.write.Tie as tie
+
+returns : tie.Need-returns
+returns c =
+    let a = c .before .before .before .before .before .before .before .before .before .before .before .args in
+    rpc-wrote (a .command) (a .input .now) (a .out .now) (c .before .before .before .before .before .before .byte .ensures) (c .before .before .before .before .before .header-of .ensures) (c .before .before .before .before .wide .ensures) (c .before .before .before .before .before .before .before .before .front .ensures) (c .before .before .before .before .before .before .before .part .ensures) (c .before .before .write .ensures)
+
+pub write-spec : {M : Type 1} → statement M
+write-spec =
+    tie.close
+    (tie.spec
+    (λ c κs. search needs) (λ c κs. search needs) (λ c κs. search needs) (λ c κs. search needs)  -- front-requires, part-requires, byte-requires, header-of-requires
+    (λ c κs. search needs) (λ c κs. search needs) (λ c. search needs)  -- wide-requires, write-requires, same-length
+    returns)

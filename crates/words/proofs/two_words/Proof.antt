@@ -1,0 +1,35 @@
+-- `words::two_words` meets its contract: the bytes of a word have room in the buffer, and those of the second in what the first left of it.
+-- Assumes nothing.
+use mathlib.Core.Path.{refl}
+use native.Mathlib.Omega.{arith}
+use Rattle.words.proofs.Turns.{within, two-are}
+use borrow.Author.Needs.{needs}
+use Rattle.words.proofs.two_words.Statement.{statement}
+use Rattle.words.proofs.two_words.Tie as tie
+
+sub-hex : tie.Need-sub-hex
+sub-hex c = omega (arith, within _ _ (c .before .before .before .hex .ensures), c .before .before .before .hex .kept .1 .0)
+
+part-hex-start : tie.Need-part-hex-start
+part-hex-start c = omega (arith, within _ _ (c .before .before .before .hex .ensures), c .before .before .before .hex .kept .1 .0)
+
+add-t12 : tie.Need-add-t12
+add-t12 c = omega (arith, within _ _ (c .before .before .before .before .before .before .before .before .before .before .hex .ensures), c .before .before .before .before .before .before .before .before .before .before .hex .kept .1 .0, within _ _ (c .before .before .before .before .before .hex2 .ensures))
+
+returns : tie.Need-returns
+returns c =
+    let a = c .before .before .before .before .before .before .before .before .before .before .before .before .before .before .before .before .args in
+    two-are (a .line .now) (a .content .now) (a .end) (c .before .before .before .before .before .before .before .before .before .before .before .before .before .word-end .ensures) (c .before .before .before .before .before .before .before .before .before .before .before .before .between .ensures) (c .before .before .before .before .before .before .before .between2 .ensures)
+    (c .before .before .before .before .before .before .before .before .before .before .hex .ensures) (c .before .before .before .before .before .hex2 .ensures) refl
+
+pub two-words-spec : {M : Type 1} → statement M
+two-words-spec =
+    tie.close
+    (tie.spec
+    (λ c κs. search needs) (λ c κs. search needs) (λ c κs. search needs) (λ c κs. search needs)  -- word-end-requires, between-requires, hex-requires, between-requires-2
+    sub-hex
+    part-hex-start
+    (λ c. search needs) (λ c κs. search needs)  -- part-hex-end, hex-requires-2
+    add-t12
+    (λ c. search needs)  -- same-length
+    returns)
