@@ -104,14 +104,15 @@ fn write_proved(form: u8, version: u8, h: &Header, json: &[u8], bulk: &[u8], out
 }
 
 /// The least time of a call, in nanoseconds, of each of several ways to do the same work, timed in turn. A way goes once over all
-/// payloads each time it is called, so that nothing but the calls is timed.
-fn least_times(ways: &mut [&mut dyn FnMut()]) -> Vec<f64> {
+/// payloads each time it is called, so that nothing but the calls is timed; all write to the same buffer.
+fn least_times(ways: &mut [&mut dyn FnMut(&mut [u8])]) -> Vec<f64> {
+    let mut out = vec![0u8; SIZE];
     let mut least = vec![f64::INFINITY; ways.len()];
     for _ in 0..ROUNDS {
         for (way, best) in ways.iter_mut().zip(least.iter_mut()) {
             let start = Instant::now();
             for _ in 0..TURNS {
-                way();
+                way(&mut out);
             }
             *best = best.min(start.elapsed().as_nanos() as f64 / (TURNS * COUNT) as f64);
         }
@@ -132,13 +133,13 @@ fn print(what: &str, name: &str, least: &[f64]) {
 fn measure_reading(p: &Payloads) {
     let mut fields = [0u8; FIELDS];
     let least = least_times(&mut [
-        &mut || {
+        &mut |_| {
             for bytes in p.bytes.chunks_exact(SIZE) {
                 black_box(read_proved(black_box(p.form as u8), black_box(VERSION), black_box(bytes), &mut fields));
                 black_box(&fields);
             }
         },
-        &mut || {
+        &mut |_| {
             for bytes in p.bytes.chunks_exact(SIZE) {
                 let reading = read_reference(black_box(p.form), black_box(VERSION), black_box(bytes));
                 black_box(&reading);
@@ -149,19 +150,18 @@ fn measure_reading(p: &Payloads) {
 }
 
 fn measure_writing(p: &Payloads) {
-    let mut out = [vec![0u8; SIZE], vec![0u8; SIZE]];
-    let [first, second] = &mut out;
     let least = least_times(&mut [
-        &mut || {
+        &mut |out| {
             for header in &p.headers {
-                black_box(write_proved(black_box(p.form as u8), black_box(VERSION), header, black_box(&p.json), black_box(&[]), first));
-                black_box(&first);
+                black_box(write_proved(black_box(p.form as u8), black_box(VERSION), header, black_box(&p.json), black_box(&[]), out));
+                black_box(&out);
             }
         },
-        &mut || {
+        &mut |out| {
             for header in &p.headers {
-                black_box(write_reference(black_box(p.form), black_box(VERSION), header, black_box(&p.json), black_box(&[]), second));
-                black_box(&second);
+                let written = write_reference(black_box(p.form), black_box(VERSION), header, black_box(&p.json), black_box(&[]), out);
+                black_box(written);
+                black_box(&out);
             }
         },
     ]);

@@ -1,33 +1,32 @@
--- The ways of the functions: the fields laid piece by piece, what a reading has room for, and each call's result from the answer that it got.
+-- The ways of the functions: the fields laid piece by piece, what is told of each answer of the reader, and the writer's result from its answer.
 -- Assumes nothing.
 use Prim.Native.Nat.{ℕ, _+_, _-_, _/_, _%_, _^_, _≤_, _<_}
-use mathlib.Core.Path.{_≡_, refl, ap, _∙_, sym, subst}
-use mathlib.Core.Bool.{Bool}
+use mathlib.Core.Path.{_≡_, refl, ap, _∙_, sym}
 use mathlib.Core.List.{List, [], _∷_, _++_}
 use native.Mathlib.Omega.{arith}
-use lib.Dec.{eqb, leb}
 use lib.ListN.{length, set, length-append, length-set}
-use borrow.Author.Tests.{leb-true}
+use borrow.Author.Tests.{ne-eqb}
 use Rattle.numbers.specs.Bytes.{part, putAt, laid}
 use Rattle.numbers.specs.Numbers.{bytesBe, bytesLe, valueBe}
 use Rattle.numbers.proofs.Laws.{length-be, put-fits}
-use Rattle.numbers.proofs.Choices.{either, unless-elim}
-use Rattle.frame.specs.Rules.{knownVersion}
+use Rattle.numbers.proofs.Choices.{either}
 use Rattle.frame.specs.Write.{Wrote, wrote}
 use Rattle.frame.specs.declared.Written.{Written}
 use Rattle.frame.proofs.Buffers.{four-stored, front-put, laid-more, laid-length, pasted}
 use Rattle.capture.specs.Capture.{left}
-use Rattle.rpc.specs.Rules.{isQuery, isBare, idSpan, kindFits, idFits, mayEnd, faultOf}
-use Rattle.rpc.specs.Layout.{fieldsIn, headerOf, fieldsOf}
-use Rattle.rpc.specs.Read.{bareParts, faultIn, messageIn, readOf}
+use Rattle.rpc.specs.Rules.{isQuery, isBare, idSpan}
+use Rattle.rpc.specs.Layout.{fieldsIn, fieldsOf}
+use Rattle.rpc.specs.Read.{readOf}
 use Rattle.rpc.specs.declared.Form.{Form}
-use Rattle.rpc.specs.declared.Form.the-variants.{Rpc, Bulk, Query}
+use Rattle.rpc.specs.declared.Form.the-variants.{Rpc}
 use Rattle.rpc.specs.declared.Fields.{Fields}
 use Rattle.rpc.specs.declared.Header.{Header}
 use Rattle.rpc.specs.declared.Parts.{Parts}
 use Rattle.rpc.specs.declared.Reading.{Reading}
-use Rattle.rpc.specs.declared.Reading.the-variants.{Message, Bare, Refused}
-use Rattle.smoke.specs.Smoke.{fieldBytes, fieldsFrom, noFields, HeaderThere, told, readIn, coded, writtenCode}
+use Rattle.rpc.specs.declared.Reading.the-variants.{Message, Bare}
+use Rattle.rpc.proofs.Answers.{is-message, is-bare}
+use Rattle.rpc.proofs.ThereAndBack.{fields-same}
+use Rattle.smoke.specs.Smoke.{fieldBytes, fieldsFrom, noFields, HeaderThere, told, readIn, start, coded, writtenCode}
 
 -- a number right behind what was laid
 number-put : (a : List ℕ) (m at : ℕ) (o p q : List ℕ) → length a ≡ at → at + 4 ≤ length o → p ≡ laid a o → q ≡ putAt p at 4 (bytesBe 4 m) → q ≡ laid (a ++ bytesBe 4 m) o
@@ -81,66 +80,47 @@ header-put w f o q r s h b i e₁ e₂ e₃ =
     let q₁ : set q 4 (f .id / 2 ^ 24) ≡ laid front o = top-stored 1 (f .kind) 12 0 (f .id) w o q (front-put 1 (f .kind) 12 0 w o q (omega arith) e₁) b i in
     number-put (front ++ bytesBe 4 (f .number)) (f .size) 12 o r s m (omega arith) (number-put front (f .number) 8 o (set q 4 (f .id / 2 ^ 24)) r l (omega arith) q₁ e₂) e₃
 
--- what an answer says: where the JSON begins, what stands in the payload, and the largest refusal
-abbrev pub Says : Form → List ℕ → Reading → Type 0
-Says form s (Message h size p) = (p .json ≡ 12) × ((12 ≤ length s) × (fieldsOf h size ≡ fieldsIn form s))
-Says form s (Bare p) = p .json ≡ 0
-Says form s (Refused n) = n ≤ 44
-
-fault-most : (form : Form) (f : Fields) (fits ends : Bool) → faultOf form f fits ends ≤ 44
-unfolding faultOf
-fault-most form f fits ends =
-    let P : ℕ → Type 0 = λ n. n ≤ 44 in
-    unless-elim P (kindFits form (f .kind)) 41 _ (λ t. omega arith) λ k.
-    unless-elim P (idFits form (f .id)) 42 _ (λ t. omega arith) λ i.
-    unless-elim P fits 43 _ (λ t. omega arith) λ s.
-    unless-elim P (mayEnd form ends) 44 0 (λ t. omega arith) (λ t. omega arith)
-
-kinds-back : (form : Form) (f : Fields) → fieldsOf (headerOf form f) (f .size) ≡ f
-kinds-back Rpc f = refl
-kinds-back Bulk f = refl
-kinds-back Query f = refl
-
-pub read-says : (form : Form) (version : ℕ) (s : List ℕ) → Says form s (readOf form version s)
-unfolding readOf messageIn
-read-says form version s =
-    unless-elim (Says form s) (knownVersion version) (Refused 1) _ (λ t. omega arith) λ k.
-    either (Says form s) (isBare form version) (Bare (bareParts s)) _ (λ b. refl) λ b.
-    unless-elim (Says form s) (leb 12 (length s)) (Refused 40) _ (λ t. omega arith) λ l.
-    unless-elim (Says form s) (eqb (faultIn form s) 0) (Refused (faultIn form s)) _ (λ t. fault-most form (fieldsIn form s) _ _)
-    (λ t. (refl, (leb-true 12 (length s) l, kinds-back form (fieldsIn form s))))
-
--- where the answer is r, of a call that gave x
-pub answer-says : (form : Form) (version : ℕ) (s : List ℕ) (x r : Reading) → x ≡ readOf form version s → x ≡ r → Says form s r
-answer-says form version s x r e f = subst (Says form s) (sym e ∙ f) (read-says form version s)
-
 -- the low bits of a word are the id's in every form
 id-low : (w : ℕ) (form : Form) → w % idSpan form % 2 ^ 24 ≡ w % 2 ^ 24
 unfolding idSpan
 id-low w form = either (λ (n : ℕ). w % n % 2 ^ 24 ≡ w % 2 ^ 24) (isQuery form) (2 ^ 24) (2 ^ 28) (λ e. omega arith) (λ e. omega arith)
 
-pub header-there : (form : Form) (version : ℕ) (s : List ℕ) (x : Reading) (h : Header) (size : ℕ) (p : Parts) (f : Fields) → x ≡ readOf form version s
-    → x ≡ Message h size p → f ≡ fieldsOf h size → HeaderThere s f
-unfolding fieldsIn
-header-there form version s x h size p f e g i =
-    let a = answer-says form version s x (Message h size p) e g in
-    let j : f ≡ fieldsIn form s = i ∙ a .1 .1 in
-    let low : fieldsIn form s .id % 2 ^ 24 ≡ valueBe (part s 0 4) % 2 ^ 24 = id-low (valueBe (part s 0 4)) form in
-    record { long = a .1 .0; id = ap (λ (k : Fields). k .id % 2 ^ 24) j ∙ low; number = ap (λ (k : Fields). k .number) j; size = ap (λ (k : Fields). k .size) j }
+-- the fields of a payload that was read, as they stand in it
+fields-read : (form : Form) (version : ℕ) (s : List ℕ) (h : Header) (size : ℕ) (p : Parts) → readOf form version s ≡ Message h size p
+    → fieldsOf h size ≡ fieldsIn form s
+fields-read form version s h size p r =
+    let m = is-message form version s h size p r in
+    rw (m .header, m .sized) (fields-same form (fieldsIn form s))
 
-pub as-message : (form : Form) (version : ℕ) (s fields : List ℕ) (x : Reading) (h : Header) (size : ℕ) (p : Parts) (f : Fields) → x ≡ readOf form version s
-    → x ≡ Message h size p → f ≡ fieldsOf h size → told 1 12 f fields ≡ readIn form version s fields
-as-message form version s fields x h size p f e g i =
-    let a = answer-says form version s x (Message h size p) e g in
-    let r : readOf form version s ≡ Message h size p = sym e ∙ g in
-    rw (r, a .0, i)
+-- what is told where the answer x is a message: f is what code made of it
+module _ (form : Form) (version : ℕ) (s : List ℕ) (x : Reading) (h : Header) (size : ℕ) (p : Parts) (f : Fields) (e : x ≡ readOf form version s)
+    (g : x ≡ Message h size p) (i : f ≡ fieldsOf h size) where
+  read : readOf form version s ≡ Message h size p
+  read = sym e ∙ g
 
+  pub header-there : HeaderThere s f
+  unfolding fieldsIn
+  header-there =
+      let j : f ≡ fieldsIn form s = i ∙ fields-read form version s h size p read in
+      record {
+        long = is-message form version s h size p read .long;
+        id = ap (λ (k : Fields). k .id % 2 ^ 24) j ∙ id-low (valueBe (part s 0 4)) form;
+        number = ap (λ (k : Fields). k .number) j;
+        size = ap (λ (k : Fields). k .size) j;
+      }
+
+  pub as-message : (fields : List ℕ) → told 1 12 f fields ≡ readIn form version s fields
+  as-message fields =
+      let begins : p .json ≡ 12 = ap (λ (q : Parts). q .json) (is-message form version s h size p read .parts) in
+      rw (read, begins, i)
+
+-- and where it is JSON alone
 pub as-bare : (form : Form) (version : ℕ) (s fields : List ℕ) (x : Reading) (p : Parts) → x ≡ readOf form version s → x ≡ Bare p
     → told 0 0 noFields fields ≡ readIn form version s fields
 as-bare form version s fields x p e g =
-    let a = answer-says form version s x (Bare p) e g in
     let r : readOf form version s ≡ Bare p = sym e ∙ g in
-    rw (r, a)
+    let begins : p .json ≡ 0 = ap (λ (q : Parts). q .json) (is-bare form version s p r .parts) in
+    rw (r, begins)
 
 -- the fields of a header that is there
 pub header-told : (s : List ℕ) (f : Fields) → HeaderThere s f → fieldsFrom (f .kind) (f .id) (valueBe (part s 4 4)) (valueBe (part s 8 4)) ≡ f
@@ -149,3 +129,13 @@ header-told s f t = rw (← (t .number), ← (t .size))
 -- the writer's result, from the answer that it got
 pub as-written : (begins c : ℕ) (a b : Written) (o : List ℕ) (w : Wrote) → wrote a o ≡ w → a ≡ b → c ≡ writtenCode begins b → left c o ≡ coded begins w
 as-written begins c a b o w e f g = rw (g, ← f) (ap (coded begins) e)
+
+-- where the JSON begins, from code's tests; r is what code gives
+module _ {r : ℕ} (form : Form) (version : ℕ) where
+  pub start-bare : form ≡ Rpc → version ≡ 1 → r ≡ 0 → r ≡ start form version
+  unfolding start isBare
+  start-bare e f g = rw (e, f, g)
+
+  pub start-rpc : form ≡ Rpc → (version ≡ 1 → ⊥) → r ≡ 12 → r ≡ start form version
+  unfolding start isBare
+  start-rpc e f g = rw (e, g, ne-eqb version 1 f)

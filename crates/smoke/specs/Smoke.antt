@@ -1,5 +1,5 @@
--- What the C side gets for the answers of the payload reader and writer: a code, and what is left in the lent bytes. Document 02, request A1: "Our smoke tester needs
--- what is inside joined messages." The numbers of forms and the places of fields are ours, as the C header tells them; codes are those of the frame functions.
+-- What the C side gets for the answers of the payload reader and writer: a code, and what is left in the lent bytes.
+-- Document 02, request A1: "Our smoke tester needs what is inside joined messages." The numbers of forms and the places of fields are ours, as the C header tells them; codes are those of the frame functions.
 -- Assumes nothing.
 use Prim.Native.Nat.{ℕ, _%_, _^_, _≤_}
 use mathlib.Core.Path.{_≡_}
@@ -69,7 +69,8 @@ pub record HeaderThere (payload : List ℕ) (f : Fields) : Type 0 where
   pub number : f .number ≡ valueBe (part payload 4 4)
   pub size : f .size ≡ valueBe (part payload 8 4)
 
--- a payload that was read needs 16 bytes for its fields, else 11; the fields go to the front, and what is past them stays. Class 0 is with the place where the JSON begins
+-- a payload that was read needs 16 bytes for its fields, else 11; the fields go to the front, and what is past them stays.
+-- Class 0 is with the place where the JSON begins
 unfoldable pub told : ℕ → ℕ → Fields → List ℕ → Left
 told headed begins f fields = unless (leb 16 (length fields)) (left (code 1 11) fields) (left (code 0 begins) (laid (fieldBytes headed begins f) fields))
 

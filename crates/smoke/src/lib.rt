@@ -73,8 +73,8 @@ pub extern "C" fn tilambok_rpc_form(service: u8) -> u64
     form_code(rpc::form_of(ServiceType(service)))
 }
 
-// The fields of a payload with a header, to the front of fields. The numbers are read from the payload again, an id with its type, which is then taken off: so the
-// compiler moves each at once, and keeps no byte of what the reader judged.
+// The fields of a payload with a header, to the front of fields. The numbers are read from the payload again, an id with its type, which is then
+// taken off: so the compiler moves each at once, and keeps no byte of what the reader judged.
 fn put_fields(payload: &[u8], kind: u8, id: u32, fields: &mut [u8])
     requires { ⌜ (12 ≤ length (now payload)) × ((16 ≤ length (now fields)) × (id % 2 ^ 24 ≡ valueBe (part (now payload) 0 4) % 2 ^ 24)) ⌝ }
     ensures { λ _. ⌜ now (fields .exit) ≡ laid (fieldBytes 1 12 (fieldsFrom kind id (valueBe (part (now (payload .entry)) 4 4)) (valueBe (part (now (payload .entry)) 8 4)))) (now (fields .entry)) ⌝ }

@@ -1,9 +1,7 @@
--- `smoke::form_from` meets its contract.
+-- `smoke::form_from` meets its contract: each return is the definition's, by the tests that led to it.
 -- Assumes nothing.
 use Rattle.smoke.specs.Smoke.{formFrom}
 use borrow.Author.Tests.{eq-eqb, ne-eqb}
-use native.Mathlib.Omega.{arith}
-use borrow.Author.Needs.{needs}
 use Rattle.smoke.proofs.form_from.Statement.{statement}
 use Rattle.smoke.proofs.form_from.Tie as tie
 
@@ -24,10 +22,4 @@ unfolding formFrom
 returns-4 c = rw (ne-eqb _ _ (c .before .before .if1 .left), ne-eqb _ _ (c .before .if2 .left), ne-eqb _ _ (c .if3 .left))
 
 pub form-from-spec : {M : Type 1} → statement M
-form-from-spec =
-    tie.close
-    (tie.spec
-    returns
-    returns-2
-    returns-3
-    returns-4)
+form-from-spec = tie.close (tie.spec returns returns-2 returns-3 returns-4)

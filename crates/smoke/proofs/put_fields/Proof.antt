@@ -1,10 +1,9 @@
--- `smoke::put_fields` meets its contract.
+-- `smoke::put_fields` meets its contract: four bytes, the word with its first byte replaced, and two numbers are the fields of the header, by `header-put`.
 -- Assumes nothing.
 use lib.ListN.{length-set}
 use native.Mathlib.Omega.{arith}
-use mathlib.Core.Path.{_∙_, ap, sym}
-use Prim.Native.Nat.{ℕ, _/_, _%_, _^_}
-use mathlib.Core.Path.{_≡_}
+use mathlib.Core.Path.{_∙_}
+use Prim.Native.Nat.{_/_, _^_}
 use Rattle.numbers.specs.Numbers.{valueBe}
 use Rattle.numbers.specs.Bytes.{part}
 use Rattle.smoke.specs.Smoke.{fieldsFrom}
@@ -12,6 +11,9 @@ use Rattle.smoke.proofs.Outcomes.{header-put, stored-length, top-length
 use borrow.Author.Needs.{needs}
 use Rattle.smoke.proofs.put_fields.Statement.{statement}
 use Rattle.smoke.proofs.put_fields.Tie as tie
+
+slice-write-fields : tie.Need-slice-write-fields
+slice-write-fields c = search needs
 
 slice-write-fields-2 : tie.Need-slice-write-fields-2
 slice-write-fields-2 c = simp length-set (omega arith)
@@ -22,11 +24,29 @@ slice-write-fields-3 c = simp length-set (omega arith)
 slice-write-fields-4 : tie.Need-slice-write-fields-4
 slice-write-fields-4 c = simp length-set (omega arith)
 
+be4-requires : tie.Need-be4-requires
+be4-requires c κs = search needs
+
+put-be4-requires : tie.Need-put-be4-requires
+put-be4-requires c κs = search needs
+
 cast-fields : tie.Need-cast-fields
 cast-fields c = omega arith
 
 slice-write-fields-5 : tie.Need-slice-write-fields-5
 slice-write-fields-5 c = omega (arith, (c .before .before .put-be4 .kept) .0, stored-length (c .before .before .before .before .before .before .before .args .fields .now) 1 (c .before .before .before .before .before .before .before .args .kind) 12 0, (c .before .before .before .before .before .before .before .pre) .1 .0)
+
+be4-requires-2 : tie.Need-be4-requires-2
+be4-requires-2 c κs = search needs
+
+put-be4-requires-2 : tie.Need-put-be4-requires-2
+put-be4-requires-2 c κs = search needs
+
+be4-requires-3 : tie.Need-be4-requires-3
+be4-requires-3 c κs = search needs
+
+put-be4-requires-3 : tie.Need-put-be4-requires-3
+put-be4-requires-3 c κs = search needs
 
 same-length : tie.Need-same-length
 same-length c = (c .before .before .put-be43 .kept) .0 ∙ (c .before .before .before .before .before .before .before .put-be42 .kept) .0 ∙ top-length _ _ _ (c .before .before .before .before .before .before .before .before .before .before .before .before .before .before .before .before .before .args .id / 2 ^ 24) (c .before .before .before .before .before .before .before .before .before .before .before .before .put-be4 .ensures) ((c .before .before .before .before .before .before .before .before .before .before .before .before .put-be4 .kept) .0) ∙ stored-length (c .before .before .before .before .before .before .before .before .before .before .before .before .before .before .before .before .before .args .fields .now) 1 (c .before .before .before .before .before .before .before .before .before .before .before .before .before .before .before .before .before .args .kind) 12 0
@@ -38,13 +58,17 @@ pub put-fields-spec : {M : Type 1} → statement M
 put-fields-spec =
     tie.close
     (tie.spec
-    (λ c. search needs)  -- slice-write-fields
+    slice-write-fields
     slice-write-fields-2
     slice-write-fields-3
     slice-write-fields-4
-    (λ c κs. search needs) (λ c κs. search needs)  -- be4-requires, put-be4-requires
+    be4-requires
+    put-be4-requires
     cast-fields
     slice-write-fields-5
-    (λ c κs. search needs) (λ c κs. search needs) (λ c κs. search needs) (λ c κs. search needs)  -- be4-requires-2, put-be4-requires-2, be4-requires-3, put-be4-requires-3
+    be4-requires-2
+    put-be4-requires-2
+    be4-requires-3
+    put-be4-requires-3
     same-length
     returns)

@@ -1,4 +1,4 @@
--- `smoke::tell_none` meets its contract.
+-- `smoke::tell_none` meets its contract: the test of the room is the definition's.
 -- Assumes nothing.
 use lib.ListN.{length}
 use native.Mathlib.Omega.{arith}
@@ -8,12 +8,21 @@ use borrow.Author.Needs.{needs}
 use Rattle.smoke.proofs.tell_none.Statement.{statement}
 use Rattle.smoke.proofs.tell_none.Tie as tie
 
+refused-requires : tie.Need-refused-requires
+refused-requires c κs = search needs
+
 returns : tie.Need-returns
 unfolding told
 returns c = rw ((c .refused .ensures), lt-leb 16 (length (c .before .before .before .args .fields .now)) (omega arith))
 
 put-none-requires : tie.Need-put-none-requires
 put-none-requires c κs = omega arith
+
+done-requires : tie.Need-done-requires
+done-requires c κs = search needs
+
+same-length : tie.Need-same-length
+same-length c = search needs
 
 returns-2 : tie.Need-returns-2
 unfolding told
@@ -22,9 +31,4 @@ returns-2 c = rw ((c .done .ensures), (c .before .before .before .put-none .ensu
 pub tell-none-spec : {M : Type 1} → statement M
 tell-none-spec =
     tie.close
-    (tie.spec
-    (λ c κs. search needs)  -- refused-requires
-    returns
-    put-none-requires
-    (λ c κs. search needs) (λ c. search needs)  -- done-requires, same-length
-    returns-2)
+    (tie.spec refused-requires returns put-none-requires done-requires same-length returns-2)

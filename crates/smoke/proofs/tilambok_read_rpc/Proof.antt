@@ -1,9 +1,27 @@
--- `smoke::tilambok_read_rpc` meets its contract.
+-- `smoke::tilambok_read_rpc` meets its contract: what `read_in` ensures, in the form that the number names.
 -- Assumes nothing.
-use mathlib.Core.Path.{_∙_, sym, ap}
+use mathlib.Core.Path.{_∙_, sym}
 use borrow.Author.Needs.{needs}
 use Rattle.smoke.proofs.tilambok_read_rpc.Statement.{statement}
 use Rattle.smoke.proofs.tilambok_read_rpc.Tie as tie
+
+form-from-requires : tie.Need-form-from-requires
+form-from-requires c κs = search needs
+
+enum-known-known : tie.Need-enum-known-known
+enum-known-known c = search needs
+
+read-in-requires : tie.Need-read-in-requires
+read-in-requires c κs = search needs
+
+enum-told : tie.Need-enum-told
+enum-told c = search needs
+
+refused-requires : tie.Need-refused-requires
+refused-requires c κs = search needs
+
+same-length : tie.Need-same-length
+same-length c = search needs
 
 returns : tie.Need-returns
 returns c = rw (sym (c .before .before .before .before .before .before .before .form-from .ensures) ∙ (c .before .before .before .before .before .known .given) .1) (c .before .before .read-in .ensures)
@@ -15,7 +33,11 @@ pub tilambok-read-rpc-spec : {M : Type 1} → statement M
 tilambok-read-rpc-spec =
     tie.close
     (tie.spec
-    (λ c κs. search needs) (λ c. search needs) (λ c κs. search needs) (λ c. search needs)  -- form-from-requires, enum-known-known, read-in-requires, enum-told
-    (λ c κs. search needs) (λ c. search needs)  -- refused-requires, same-length
+    form-from-requires
+    enum-known-known
+    read-in-requires
+    enum-told
+    refused-requires
+    same-length
     returns
     returns-2)
