@@ -165,15 +165,6 @@ fn measure_reading(p: &Payloads) {
                 black_box(&reading);
             }
         },
-    ]);
-    print("read ", p.name, &least);
-    let least = least_times(&mut [
-        &mut |_| {
-            for bytes in p.bytes.chunks_exact(SIZE) {
-                black_box(read_proved(black_box(p.form as u8), black_box(VERSION), black_box(bytes), &mut fields));
-                black_box(&fields);
-            }
-        },
         &mut |_| {
             for bytes in p.bytes.chunks_exact(SIZE) {
                 black_box(read_reference_fields(black_box(p.form), black_box(VERSION), black_box(bytes), &mut reference_fields));
@@ -182,7 +173,8 @@ fn measure_reading(p: &Payloads) {
         },
     ]);
     assert_eq!(fields, reference_fields, "both hand out the same fields");
-    print("read, fields handed out ", p.name, &least);
+    print("read ", p.name, &least[..2]);
+    print("read, fields handed out ", p.name, &[least[0], least[2]]);
 }
 
 fn measure_writing(p: &Payloads) {

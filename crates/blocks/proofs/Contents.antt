@@ -193,10 +193,6 @@ release-bytes low high other (o ∷ map) pool h d =
 
 -- ---- delivery
 
-pub deliver-length : (owner due : ℕ) (map pool out : List ℕ) → length (delivered owner due map pool out) ≡ length out
-unfolding delivered
-deliver-length owner due map pool out = over-length 0 (take due (blockBytes owner map pool)) out
-
 -- where out has room, it begins with the first `due` bytes, and the rest stays
 pub deliver-laid : (owner due : ℕ) (map pool out : List ℕ) → due ≤ length out
     → delivered owner due map pool out ≡ laid (take due (blockBytes owner map pool)) out
