@@ -40,20 +40,22 @@ pasted d s at n l =
     let w : take n s ≡ s = take-all n s (omega arith) in
     rw (w, append-assoc)
 
+-- a number right behind what was laid
+pub number-put : (a : List ℕ) (m at : ℕ) (o p q : List ℕ) → length a ≡ at → at + 4 ≤ length o → p ≡ laid a o → q ≡ putAt p at 4 (bytesBe 4 m) → q ≡ laid (a ++ bytesBe 4 m) o
+number-put a m at o p q l h e f =
+    let n : at + 4 ≤ length p = rw (e, laid-length a o (omega arith)) h in
+    laid-more a (bytesBe 4 m) o p q at 4 l (length-be 4 m) e (f ∙ put-fits p at 4 (bytesBe 4 m) n ∙ pasted p (bytesBe 4 m) at 4 (length-be 4 m))
+
+-- bytes copied there
+pub bytes-put : (a b o p q r : List ℕ) (at : ℕ) → length a ≡ at → p ≡ laid a o → r ≡ b → q ≡ putMid at (at + length b - at) p r → q ≡ laid (a ++ b) o
+bytes-put a b o p q r at l e f g =
+    let z : at + length b - at ≡ length b = omega arith in
+    laid-more a b o p q at (length b) l refl e (g ∙ rw (z, f, drop-drop))
+
 -- the first 8 bytes of a header: four stored one by one, then a number
 pub front-put : (x y z w n : ℕ) (o q : List ℕ) → 8 ≤ length o → q ≡ putAt (set (set (set (set o 0 x) 1 y) 2 z) 3 w) 4 4 (bytesBe 4 n)
     → q ≡ laid (x ∷ y ∷ z ∷ w ∷ bytesBe 4 n) o
-front-put x y z w n o q h e =
-    let p = set (set (set (set o 0 x) 1 y) 2 z) 3 w in
-    let l : 4 + 4 ≤ length p = simp length-set (omega arith) in
-    laid-more (x ∷ y ∷ z ∷ w ∷ []) (bytesBe 4 n) o p q 4 4 refl (length-be 4 n) (four-stored o x y z w (omega arith))
-    (e ∙ put-fits p 4 4 (bytesBe 4 n) l ∙ pasted p (bytesBe 4 n) 4 4 (length-be 4 n))
-
--- a number right behind 8 bytes
-pub message-put : (a : List ℕ) (m : ℕ) (o p q : List ℕ) → length a ≡ 8 → 12 ≤ length o → p ≡ laid a o → q ≡ putAt p 8 4 (bytesBe 4 m) → q ≡ laid (a ++ bytesBe 4 m) o
-message-put a m o p q l h e f =
-    let n : 8 + 4 ≤ length p = rw (e, laid-length a o (omega arith)) h in
-    laid-more a (bytesBe 4 m) o p q 8 4 l (length-be 4 m) e (f ∙ put-fits p 8 4 (bytesBe 4 m) n ∙ pasted p (bytesBe 4 m) 8 4 (length-be 4 m))
+front-put x y z w n o q h e = number-put (x ∷ y ∷ z ∷ w ∷ []) n 4 o (set (set (set (set o 0 x) 1 y) 2 z) 3 w) q refl (omega arith) (four-stored o x y z w (omega arith)) e
 
 -- the header's bytes with and without a message id; b is the flag's bit
 module _ (h : Header) (b : ℕ) (o q : List ℕ) (e : b ≡ pick (h .flag) 8 0) where
@@ -80,8 +82,7 @@ payload-put a b o p q r n l h e f g =
     let z : n + length b - n ≡ length b = omega arith in
     let k : take (length b) b ≡ b = take-all (length b) b (omega arith) in
     let m : drop (length b) (part p n (length b)) ≡ [] = drop-of-length-le (part p n (length b)) {i = length b} (length-part p n (length b)) in
-    let r' : r ≡ b = f ∙ rw (z, k, m, append-nil) in
-    laid-more a b o p q n (length b) l refl e (g ∙ rw (z, r', drop-drop))
+    bytes-put a b o p q r n l e (f ∙ rw (z, k, m, append-nil)) g
   where
     length-part : (s : List ℕ) (at w : ℕ) → length (part s at w) ≤ w
     length-part s at w = omega (arith, length-take w (drop at s))

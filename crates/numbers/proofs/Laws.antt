@@ -6,7 +6,7 @@ use mathlib.Core.Bool.{true}
 use mathlib.Core.List.{List, [], _∷_, _++_, reverse, reverse-cons, reverse-reverse}
 use native.Mathlib.Omega.{arith}
 use native.Mathlib.Nat.{pow-suc}
-use lib.ListN.{length, take, drop, length-reverse}
+use lib.ListN.{length, getD, take, drop, length-reverse}
 use borrow.Author.Tests.{le-leb}
 use lib.Seq.{paste}
 use Rattle.numbers.specs.Bytes.{fitsIn, putAt, AreBytes}
@@ -88,6 +88,16 @@ value-below-be bs h = rw (length-reverse bs) at (value-below-le (reverse bs) (by
 pub bytes-be : (w n : ℕ) → AreBytes (bytesBe w n)
 unfolding bytesBe
 bytes-be w n = bytes-reverse (bytesLe w n) (bytes-le w n)
+
+-- a number's bytes as a number in the other order, written again
+pub turned-written : (w n : ℕ) → bytesLe w (valueBe (bytesLe w n)) ≡ bytesBe w n
+unfolding valueBe bytesBe
+turned-written w n = rw (length-be w n) at (written-read-le (bytesBe w n) (bytes-be w n))
+
+-- what a slice of bytes holds are bytes
+pub known-bytes : (bs : List ℕ) → ((i : ℕ) → getD bs i 0 < 256) → AreBytes bs
+known-bytes [] h = tt
+known-bytes (b ∷ bs) h = (h 0, known-bytes bs (λ i. h (suc i)))
 
 -- a write that fits
 fits-in : (n at w : ℕ) → at + w ≤ n → fitsIn n at w ≡ true

@@ -1,19 +1,19 @@
 -- What one turn of a reading or a writing loop does, over the width, and what a read of missing bytes counts.
 -- Assumes nothing.
 use Prim.Native.Nat.{ℕ, zero, suc, _+_, _-_, _*_, _/_, _%_, _^_, _<_, _≤_, min}
-use mathlib.Core.Path.{_≡_, ap, _∙_, sym}
-use mathlib.Core.List.{List, [], _∷_, _++_, reverse-cons, reverse-append, append-assoc}
+use mathlib.Core.Path.{_≡_, ap, _∙_}
+use mathlib.Core.List.{List, [], _∷_, reverse-append}
 use mathlib.Core.Bool.{true}
 use lib.Dec.{leb}
 use borrow.Author.Tests.{leb-true}
 use native.Mathlib.Omega.{arith}
 use native.Mathlib.Nat.{pow-suc, pow-le-pow-right}
 use native.Mathlib.Numerals.{add-one}
-use lib.ListN.{length, getD, take, drop, set, length-drop, take-append-drop, drop-of-length-le}
-use lib.Seq.{drop-cons, take-suc, take-take, take-all, getD-drop, getD-take, getD-at, set-at, take-at, paste, length-take-le}
-use Rattle.numbers.specs.Bytes.{part, fitsIn}
-use Rattle.numbers.specs.Numbers.{valueLe, bytesLe, valueBe, bytesBe}
-use Rattle.numbers.proofs.Laws.{length-le, length-be}
+use lib.ListN.{length, getD, take, drop, length-drop}
+use lib.Seq.{drop-cons, take-suc, getD-drop, length-take-le}
+use Rattle.numbers.specs.Bytes.{part, fitsIn, AreBytes}
+use Rattle.numbers.specs.Numbers.{valueLe, bytesLe, valueBe}
+use Rattle.numbers.proofs.Laws.{length-le, written-read-le, bytes-take, bytes-drop}
 use Rattle.numbers.proofs.Choices.{and-both}
 
 -- bytes past the end are not counted
@@ -81,56 +81,30 @@ write-le w x i y h e =
     let q : drop i (bytesLe w x) ≡ getD (bytesLe w x) i 0 ∷ drop (i + 1) (bytesLe w x) = rw (add-one i) (drop-cons (bytesLe w x) i 0 l) in
     (cc, cc)
 
--- most significant first: the bytes of n / 256, then the last byte
-snoc-be : (k n : ℕ) → bytesBe (suc k) n ≡ bytesBe k (n / 256) ++ (n % 256) ∷ []
-unfolding bytesBe bytesLe
-snoc-be k n = reverse-cons (n % 256) (bytesLe k (n / 256))
+-- what each of four bytes is worth in the other order
+worth : (a b c d : ℕ) → a * 16777216 + b * 65536 + c * 256 + d ≡ d + 256 * (c + 256 * (b + 256 * (a + 256 * 0)))
+worth a b c d = omega arith
 
--- what the loop that writes from the back has made of out: the bytes from i on stand, and the front is as it was
-abbrev pub Backwards : List ℕ → ℕ → ℕ → List ℕ → ℕ → List ℕ → Type 0
-Backwards o at w bs i p = p ≡ take (at + i) o ++ (drop i bs ++ drop (at + w) o)
+sum-turned : (x : ℕ) → x < 2 ^ 32 → x % 256 * 16777216 + x / 256 % 256 * 65536 + x / 65536 % 256 * 256 + x / 16777216 ≡ valueBe (bytesLe 4 x)
+unfolding valueBe valueLe bytesLe
+sum-turned x h =
+    let third : x / 65536 ≡ x / 256 / 256 = omega arith in
+    let fourth : x / 16777216 ≡ x / 256 / 256 / 256 = omega arith in
+    let byte : x / 256 / 256 / 256 % 256 ≡ x / 256 / 256 / 256 = omega arith in
+    rw (third, fourth, byte) (worth (x % 256) (x / 256 % 256) (x / 256 / 256 % 256) (x / 256 / 256 / 256))
 
-pub back-start : (o : List ℕ) (at w : ℕ) (bs : List ℕ) → length bs ≡ w → Backwards o at w bs w o
-back-start o at w bs l =
-    let g : length bs ≤ w = omega arith in
-    let e : drop w bs ≡ [] = drop-of-length-le bs {i = w} g in
-    rw e (sym (take-append-drop (at + w) o))
+pub four-turned : (x r : ℕ) → x < 2 ^ 32 → r ≡ x % 256 * 16777216 + x / 256 % 256 * 65536 + x / 65536 % 256 * 256 + x / 16777216 → r ≡ valueBe (bytesLe 4 x)
+four-turned x r h e = e ∙ sum-turned x h
 
--- the byte before those that stand
-back-store : (o t : List ℕ) (k v : ℕ) → k < length o → set (take (suc k) o ++ t) k v ≡ take k o ++ v ∷ t
-back-store o t k v h =
-    let e : take (suc k) o ++ t ≡ take k o ++ getD o k 0 ∷ t = rw (take-suc o k 0) (append-assoc (take k o) (getD o k 0 ∷ []) t) in
-    rw e (set-at (take k o) (getD o k 0) t v k (length-take-le k o (omega arith)))
+-- bytes of a slice, read least significant first and written again, are themselves
+part-again : (s : List ℕ) (at w : ℕ) → AreBytes s → w ≤ length s - at → bytesLe w (valueLe (part s at w)) ≡ part s at w
+part-again s at w h l =
+    let n : length (part s at w) ≡ w = length-take-le w (drop at s) (omega (arith, length-drop at s)) in
+    rw n at (written-read-le (part s at w) (bytes-take w (drop at s) (bytes-drop at s h)))
 
--- the last of the first i bytes, and those before it
-back-byte : (bs : List ℕ) (k y : ℕ) → k < length bs → take (suc k) bs ≡ bytesBe (suc k) y
-    → (drop k bs ≡ (y % 256) ∷ drop (suc k) bs) × (take k bs ≡ bytesBe k (y / 256))
-back-byte bs k y h e =
-    let f : take (suc k) bs ≡ bytesBe k (y / 256) ++ (y % 256) ∷ [] = e ∙ snoc-be k y in
-    let l : length (bytesBe k (y / 256)) ≡ k = length-be k (y / 256) in
-    let low : getD bs k 0 ≡ y % 256 = sym (getD-take (suc k) bs k 0 (omega arith)) ∙ ap (λ (t : List ℕ). getD t k 0) f ∙ getD-at (bytesBe k (y / 256)) (y % 256) [] 0 k l in (
-      rw (drop-cons bs k 0 h, low),
-      sym (take-take k (suc k) bs (omega arith)) ∙ ap (λ (t : List ℕ). take k t) f ∙ take-at (bytesBe k (y / 256)) ((y % 256) ∷ []) k l,
-    )
-
-pub back-turn : (o p bs : List ℕ) (at w i y : ℕ) → 0 < i → i ≤ w → at + w ≤ length o → length bs ≡ w → take i bs ≡ bytesBe i y → Backwards o at w bs i p
-    → Backwards o at w bs (i - 1) (set p (at + (i - 1)) (y % 256)) × (take (i - 1) bs ≡ bytesBe (i - 1) (y / 256))
-back-turn o p bs at w i y a b c l e f =
-    let z : suc (i - 1) ≡ i = omega arith in
-    let n : suc (at + (i - 1)) ≡ at + i = omega arith in
-    let g : take (suc (i - 1)) bs ≡ bytesBe (suc (i - 1)) y = rw z e in
-    let k : i - 1 < length bs = omega arith in
-    let s = back-byte bs (i - 1) y k g in
-    let d : drop (i - 1) bs ≡ (y % 256) ∷ drop i bs = rw z at (s .0) in
-    let r : set (take (at + i) o ++ (drop i bs ++ drop (at + w) o)) (at + (i - 1)) (y % 256) ≡ take (at + (i - 1)) o ++ (y % 256) ∷ (drop i bs ++ drop (at + w) o)
-    = rw n at (back-store o (drop i bs ++ drop (at + w) o) (at + (i - 1)) (y % 256) (omega arith)) in
-    (rw (f, d) r, s .1)
-
-pub back-end : (o p bs : List ℕ) (at w : ℕ) → length bs ≡ w → Backwards o at w bs 0 p → p ≡ paste o at bs w
-back-end o p bs at w l f =
-    let z : at + 0 ≡ at = omega arith in
-    let e : take w bs ≡ bs = take-all w bs (omega arith) in
-    rw (e, append-assoc) (rw z at f)
+-- so their number in the other order is the one that they are most significant first
+pub part-turned : (s : List ℕ) (at w : ℕ) → AreBytes s → w ≤ length s - at → valueBe (bytesLe w (valueLe (part s at w))) ≡ valueBe (part s at w)
+part-turned s at w h l = ap valueBe (part-again s at w h l)
 
 -- what the test before a write shows
 pub fits-room : (n at w : ℕ) → fitsIn n at w ≡ true → at + w ≤ n

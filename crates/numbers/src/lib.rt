@@ -93,22 +93,23 @@ fn read_le(s: &[u8], at: usize, w: usize) -> u64
     sum_le(s, at, n)
 }
 
-fn read_be(s: &[u8], at: usize, w: usize) -> u64
-    requires { ⌜ w ≤ 8 ⌝ }
-    ensures { λ r. ⌜ Fits w (valueBe (part (now (s .entry)) at w)) r ⌝ }
+// The number of the same four bytes in the other order. The compiler makes one instruction of it, and of four bytes least significant first one
+// load or store; most significant first it often goes byte by byte.
+fn swapped(x: u32) -> u32
+    ensures { λ r. ⌜ r ≡ valueBe (bytesLe 4 x) ⌝ }
 {
-    if fits(s.len(), at, w) {
-        return sum_be(s, at, w);
-    }
-    let n = there(s.len(), at, w);
-    sum_be(s, at, n)
+    x % 256 * 16777216 + x / 256 % 256 * 65536 + x / 65536 % 256 * 256 + x / 16777216
 }
 
 // Four bytes of a header.
 pub fn be4(s: &[u8], at: usize) -> u32
     ensures { λ r. ⌜ r ≡ valueBe (part (now (s .entry)) at 4) ⌝ }
 {
-    read_be(s, at, 4) as u32
+    let n = there(s.len(), at, 4);
+    if n == 4 {
+        return swapped(sum_le(s, at, 4) as u32);
+    }
+    sum_be(s, at, n) as u32
 }
 
 // BSON's int32, as its 32 bits.
@@ -139,20 +140,6 @@ fn store_le(out: &mut [u8], at: usize, w: usize, x: u64)
     }
 }
 
-// The w bytes of x into out from at on, most significant first: the last byte is written first.
-fn store_be(out: &mut [u8], at: usize, w: usize, x: u64)
-    requires { ⌜ at + w ≤ length (now out) ⌝ }
-    ensures { λ _. ⌜ now (out .exit) ≡ paste (now (out .entry)) at (bytesBe w x) w ⌝ }
-{
-    let mut left = x;
-    let mut i = w;
-    while 0 < i {
-        i = i - 1;
-        out[at + i] = (left % 256) as u8;
-        left = left / 256;
-    }
-}
-
 fn write_le(out: &mut [u8], at: usize, w: usize, x: u64)
     ensures { λ _. ⌜ now (out .exit) ≡ putAt (now (out .entry)) at w (bytesLe w x) ⌝ }
 {
@@ -161,18 +148,10 @@ fn write_le(out: &mut [u8], at: usize, w: usize, x: u64)
     }
 }
 
-fn write_be(out: &mut [u8], at: usize, w: usize, x: u64)
-    ensures { λ _. ⌜ now (out .exit) ≡ putAt (now (out .entry)) at w (bytesBe w x) ⌝ }
-{
-    if fits(out.len(), at, w) {
-        store_be(out, at, w, x);
-    }
-}
-
 pub fn put_be4(out: &mut [u8], at: usize, x: u32)
     ensures { λ _. ⌜ now (out .exit) ≡ putAt (now (out .entry)) at 4 (bytesBe 4 x) ⌝ }
 {
-    write_be(out, at, 4, x as u64);
+    write_le(out, at, 4, swapped(x) as u64);
 }
 
 pub fn put_le4(out: &mut [u8], at: usize, x: u32)

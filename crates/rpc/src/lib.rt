@@ -408,8 +408,7 @@ fn copy(source: &[u8], target: &mut [u8])
     }
 }
 
-// Header, JSON and bulk data to the front of out. Between two numbers of the header something is copied: numbers put right behind each other the compiler
-// stores byte by byte, and one alone as a whole.
+// Header, JSON and bulk data to the front of out.
 fn put_whole(form: Form, fields: Fields, json: &[u8], bulk: &[u8], out: &mut [u8])
     requires { ⌜ (kindFits form (fields .kind) ≡ true) × ((idFits form (fields .id) ≡ true) × (12 + length (now json) + length (now bulk) ≤ length (now out))) ⌝ }
     ensures { λ _. ⌜ now (out .exit) ≡ laid (layoutBytes form fields ++ now (json .entry) ++ now (bulk .entry)) (now (out .entry)) ⌝ }
@@ -417,10 +416,10 @@ fn put_whole(form: Form, fields: Fields, json: &[u8], bulk: &[u8], out: &mut [u8
     let front = 12 + json.len();
     let end = front + bulk.len();
     numbers::put_be4(out, 0, word_of(form, fields));
-    copy(json, &mut out[12..front]);
     numbers::put_be4(out, 4, fields.number);
-    copy(bulk, &mut out[front..end]);
     numbers::put_be4(out, 8, fields.size);
+    copy(json, &mut out[12..front]);
+    copy(bulk, &mut out[front..end]);
 }
 
 // Version 1's RPC: the JSON alone.

@@ -1,8 +1,7 @@
 -- What the C side gets for the answers of the payload reader and writer: a code, and what is left in the lent bytes.
 -- Document 02, request A1: "Our smoke tester needs what is inside joined messages." The numbers of forms and the places of fields are ours, as the C header tells them; codes are those of the frame functions.
 -- Assumes nothing.
-use Prim.Native.Nat.{ℕ, _%_, _^_, _≤_}
-use mathlib.Core.Path.{_≡_}
+use Prim.Native.Nat.{ℕ}
 use mathlib.Core.List.{List, _∷_, _++_}
 use lib.Dec.{eqb, leb}
 use lib.ListN.{length, getD}
@@ -61,13 +60,6 @@ fieldsFrom kind id number size = record { kind = kind; id = id; number = number;
 -- "At version 1 RPC alone has no such header": its fields are 0
 abbrev pub noFields : Fields
 noFields = fieldsFrom 0 0 0 0
-
--- these are the fields of a payload that has its header: its numbers stand in it, the id with the type above it
-pub record HeaderThere (payload : List ℕ) (f : Fields) : Type 0 where
-  pub long : 12 ≤ length payload
-  pub id : f .id % 2 ^ 24 ≡ valueBe (part payload 0 4) % 2 ^ 24
-  pub number : f .number ≡ valueBe (part payload 4 4)
-  pub size : f .size ≡ valueBe (part payload 8 4)
 
 -- a payload that was read needs 16 bytes for its fields, else 11; the fields go to the front, and what is past them stays.
 -- Class 0 is with the place where the JSON begins

@@ -2,13 +2,12 @@
 // It holds no rule of payloads: it takes numbers to a form and a header, calls `rpc`, and turns the answer into a code.
 // The header file include/tilambok.h says the same to a C caller.
 ghost use mathlib.Core.Path.{_≡_};
-ghost use Prim.Native.Nat.{_%_, _^_, _≤_};
+ghost use Prim.Native.Nat.{_≤_};
 ghost use lib.ListN.{length};
-ghost use Rattle.numbers.specs.Bytes.{part, laid};
-ghost use Rattle.numbers.specs.Numbers.{valueBe};
+ghost use Rattle.numbers.specs.Bytes.{laid};
 ghost use Rattle.capture.specs.Capture.{code, left};
 ghost use Rattle.rpc.specs.Layout.{headerOf};
-ghost use Rattle.smoke.specs.Smoke.{formFrom, formCode, fieldsFrom, fieldBytes, noFields, HeaderThere, told, readIn, start, writeIn, tilambokReadRpc, tilambokWriteRpc, tilambokRpcForm};
+ghost use Rattle.smoke.specs.Smoke.{formFrom, formCode, fieldsFrom, fieldBytes, noFields, told, readIn, start, writeIn, tilambokReadRpc, tilambokWriteRpc, tilambokRpcForm};
 use frame::ServiceType;
 use frame::Written;
 use rpc::Carried;
@@ -73,56 +72,41 @@ pub extern "C" fn tilambok_rpc_form(service: u8) -> u64
     form_code(rpc::form_of(ServiceType(service)))
 }
 
-// The fields of a payload with a header, to the front of fields. The numbers are read from the payload again, an id with its type, which is then
-// taken off: so the compiler moves each at once, and keeps no byte of what the reader judged.
-fn put_fields(payload: &[u8], kind: u8, id: u32, fields: &mut [u8])
-    requires { ⌜ (12 ≤ length (now payload)) × ((16 ≤ length (now fields)) × (id % 2 ^ 24 ≡ valueBe (part (now payload) 0 4) % 2 ^ 24)) ⌝ }
-    ensures { λ _. ⌜ now (fields .exit) ≡ laid (fieldBytes 1 12 (fieldsFrom kind id (valueBe (part (now (payload .entry)) 4 4)) (valueBe (part (now (payload .entry)) 8 4)))) (now (fields .entry)) ⌝ }
-{
-    fields[0] = 1;
-    fields[1] = kind;
-    fields[2] = 12;
-    fields[3] = 0;
-    numbers::put_be4(fields, 4, numbers::be4(payload, 0));
-    fields[4] = (id / 16777216) as u8;
-    numbers::put_be4(fields, 8, numbers::be4(payload, 4));
-    numbers::put_be4(fields, 12, numbers::be4(payload, 8));
-}
-
-// Those of a payload without one are 0.
-fn put_none(fields: &mut [u8])
+// The fields of a payload to the front of fields: whether it has a header, its type, where the JSON begins, and the header's numbers.
+fn put_fields(headed: u8, begins: u8, f: Fields, fields: &mut [u8])
     requires { ⌜ 16 ≤ length (now fields) ⌝ }
-    ensures { λ _. ⌜ now (fields .exit) ≡ laid (fieldBytes 0 0 noFields) (now (fields .entry)) ⌝ }
+    ensures { λ _. ⌜ now (fields .exit) ≡ laid (fieldBytes headed begins f) (now (fields .entry)) ⌝ }
 {
-    fields[0] = 0;
-    fields[1] = 0;
-    fields[2] = 0;
+    fields[0] = headed;
+    fields[1] = f.kind;
+    fields[2] = begins;
     fields[3] = 0;
-    numbers::put_be4(fields, 4, 0);
-    numbers::put_be4(fields, 8, 0);
-    numbers::put_be4(fields, 12, 0);
+    numbers::put_be4(fields, 4, f.id);
+    numbers::put_be4(fields, 8, f.number);
+    numbers::put_be4(fields, 12, f.size);
 }
 
 // The same where there is room, and the call's result.
-fn tell_header(payload: &[u8], f: Fields, fields: &mut [u8]) -> u64
-    requires { ⌜ HeaderThere (now payload) f ⌝ }
-    ensures { λ r. ⌜ left r (now (fields .exit)) ≡ told 1 12 f (now (fields .entry)) ⌝ }
+fn tell(headed: u8, begins: u8, f: Fields, fields: &mut [u8]) -> u64
+    ensures { λ r. ⌜ left r (now (fields .exit)) ≡ told headed begins f (now (fields .entry)) ⌝ }
 {
     if fields.len() < FIELDS {
         return refused(frame::refusal::OUT_TOO_SMALL);
     }
-    put_fields(payload, f.kind, f.id, fields);
-    done(12)
+    put_fields(headed, begins, f, fields);
+    done(begins)
 }
 
-fn tell_none(fields: &mut [u8]) -> u64
-    ensures { λ r. ⌜ left r (now (fields .exit)) ≡ told 0 0 noFields (now (fields .entry)) ⌝ }
+// The fields of a payload without a header are 0.
+fn no_fields() -> Fields
+    ensures { λ r. ⌜ r ≡ noFields ⌝ }
 {
-    if fields.len() < FIELDS {
-        return refused(frame::refusal::OUT_TOO_SMALL);
+    Fields {
+        kind: 0,
+        id: 0,
+        number: 0,
+        size: 0,
     }
-    put_none(fields);
-    done(0)
 }
 
 // A payload in this form.
@@ -130,13 +114,20 @@ fn read_in(form: Form, version: u8, payload: &[u8], fields: &mut [u8]) -> u64
     ensures { λ r. ⌜ left r (now (fields .exit)) ≡ readIn form version (now (payload .entry)) (now (fields .entry)) ⌝ }
 {
     match rpc::read(form, version, payload) {
-        Reading::Message(header, size, _) => tell_header(
-            payload,
-            rpc::fields_of(header, size),
-            fields,
-        ),
-        Reading::Bare(_) => tell_none(fields),
+        Reading::Message(header, size, _) => tell(1, 12, rpc::fields_of(header, size), fields),
+        Reading::Bare(_) => tell(0, 0, no_fields(), fields),
         Reading::Refused(number) => refused(number),
+    }
+}
+
+// The same, each form by a call of its own: so the compiler makes a way for each, with its constants.
+fn read_known(form: Form, version: u8, payload: &[u8], fields: &mut [u8]) -> u64
+    ensures { λ r. ⌜ left r (now (fields .exit)) ≡ readIn form version (now (payload .entry)) (now (fields .entry)) ⌝ }
+{
+    match form {
+        Form::Rpc => read_in(Form::Rpc, version, payload, fields),
+        Form::Bulk => read_in(Form::Bulk, version, payload, fields),
+        Form::Query => read_in(Form::Query, version, payload, fields),
     }
 }
 
@@ -146,7 +137,7 @@ pub extern "C" fn tilambok_read_rpc(form: u8, version: u8, payload: &[u8], field
     ensures { λ r. ⌜ left r (now (fields .exit)) ≡ tilambokReadRpc form version (now (payload .entry)) (now (fields .entry)) ⌝ }
 {
     match form_from(form) {
-        Carried::InForm(known) => read_in(known, version, payload, fields),
+        Carried::InForm(known) => read_known(known, version, payload, fields),
         Carried::Nothing => refused(NO_FORM),
     }
 }

@@ -10,7 +10,7 @@ use Rattle.numbers.specs.Numbers.{bytesBe}
 use Rattle.numbers.proofs.Laws.{length-be}
 use Rattle.frame.specs.Rules.{headerSize}
 use Rattle.frame.proofs.Laws.{fault-none, version-range, header-range, flag-most}
-use Rattle.frame.proofs.Buffers.{front-put, message-put, header-one, header-more}
+use Rattle.frame.proofs.Buffers.{front-put, number-put, header-one, header-more}
 use borrow.Author.Needs.{needs}
 use Rattle.frame.proofs.put_header.Statement.{statement}
 use Rattle.frame.proofs.put_header.Tie as tie
@@ -71,7 +71,7 @@ returns-2 c =
     let more : h .version ≡ 1 → ⊥ = λ e. omega arith in
     let z : headerSize (h .version) ≡ 12 = rw (ne-eqb (h .version) 1 more) in
     header-more h (c .before .before .before .before .before .before .before .before .before .before .before .flag-bit .result) o _ (c .before .before .before .before .before .before .before .before .before .before .before .flag-bit .ensures) more
-    (message-put ((h .version * 16 + (c .before .before .before .before .before .before .before .before .before .before .before .flag-bit .result) + h .kind) ∷ h .service .0 ∷ h .info ∷ h .session .0 ∷ bytesBe 4 (h .size)) (h .message .0) o _ _ (rw (length-be 4 (h .size))) (omega (arith, (c .before .before .before .before .before .before .before .before .before .before .before .before .before .before .pre .1)))
+    (number-put ((h .version * 16 + (c .before .before .before .before .before .before .before .before .before .before .before .flag-bit .result) + h .kind) ∷ h .service .0 ∷ h .info ∷ h .session .0 ∷ bytesBe 4 (h .size)) (h .message .0) 8 o _ _ (rw (length-be 4 (h .size))) (omega (arith, (c .before .before .before .before .before .before .before .before .before .before .before .before .before .before .pre .1)))
     (front-put (h .version * 16 + (c .before .before .before .before .before .before .before .before .before .before .before .flag-bit .result) + h .kind) (h .service .0) (h .info) (h .session .0) (h .size) o _ l (c .before .before .before .before .before .before .before .before .put-be4 .ensures)) (c .before .before .put-be42 .ensures))
 
 pub put-header-spec : {M : Type 1} → statement M

@@ -13,7 +13,11 @@ returns : tie.Need-returns
 returns c = (c .before .before .copy-short .ensures)
 
 returns-2 : tie.Need-returns-2
-returns-2 c = copied (c .before .before .before .before .before .before .before .args .source .now) (c .before .before .before .before .before .before .before .args .target .now) (c .before .before .before .before .before .before .before .pre) ((c .before .before .copy .ensures) .1)
+returns-2 c =
+    let copy = c .before .before in
+    let start = copy .before .before .before .before .before in
+    let a = start .args in
+    copied (a .source .now) (a .target .now) (start .pre) ((copy .copy .ensures) .1)
 
 pub copy-spec : {M : Type 1} → statement M
 copy-spec =

@@ -6,7 +6,12 @@ use Rattle.rpc.proofs.copy_short.Statement.{statement}
 use Rattle.rpc.proofs.copy_short.Tie as tie
 
 returns : tie.Need-returns
-returns c = by-way (c .before .before .before .before .before .before .before .before .before .before .before .args .source .now) _ (c .before .before .before .before .before .before .before .before .before .before .before .args .target .now) ((c .before .before .before .before .before .before .before .before .before .before .before .pre) .1) ((c .before .before .before .before .before .before .before .copy .ensures) .1) ((c .before .before .copy2 .ensures) .1)
+returns c =
+    let back = c .before .before in
+    let there = back .before .before .before .before .before in
+    let start = there .before .before .before .before in
+    let a = start .args in
+    by-way (a .source .now) _ (a .target .now) ((start .pre) .1) ((there .copy .ensures) .1) ((back .copy2 .ensures) .1)
 
 pub copy-short-spec : {M : Type 1} → statement M
 copy-short-spec =

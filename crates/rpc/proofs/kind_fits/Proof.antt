@@ -15,15 +15,35 @@ returns c = rw (sym (c .before .before .is-query .ensures) ∙ (c .before .if1 .
 
 returns-2 : tie.Need-returns-2
 unfolding kindFits
-returns-2 c = rw (sym (c .before .before .before .is-query .ensures) ∙ (c .before .before .if1 .taken), ne-eqb _ _ (c .before .if2 .left), eq-eqb _ _ (c .if3 .taken))
+returns-2 c =
+    let if2 = c .before in
+    let if1 = if2 .before in
+    let is-query = if1 .before in
+    rw (sym (is-query .is-query .ensures) ∙ (if1 .if1 .taken), ne-eqb _ _ (if2 .if2 .left), eq-eqb _ _ (c .if3 .taken))
 
 returns-3 : tie.Need-returns-3
 unfolding kindFits
-returns-3 c = rw (sym (c .before .before .before .before .is-query .ensures) ∙ (c .before .before .before .if1 .taken), ne-eqb _ _ (c .before .before .if2 .left), ne-eqb _ _ (c .before .if3 .left), eq-eqb _ _ (c .if4 .taken))
+returns-3 c =
+    let if3 = c .before in
+    let if2 = if3 .before in
+    let if1 = if2 .before in
+    let is-query = if1 .before in
+    rw (sym (is-query .is-query .ensures) ∙ (if1 .if1 .taken), ne-eqb _ _ (if2 .if2 .left), ne-eqb _ _ (if3 .if3 .left), eq-eqb _ _ (c .if4 .taken))
 
 returns-4 : tie.Need-returns-4
 unfolding kindFits
-returns-4 c = rw (sym (c .before .before .before .before .is-query .ensures) ∙ (c .before .before .before .if1 .taken), ne-eqb _ _ (c .before .before .if2 .left), ne-eqb _ _ (c .before .if3 .left), ne-eqb _ _ (c .if4 .left)) (or-false (eqb (c .before .before .before .before .before .args .kind) 255))
+returns-4 c =
+    let if3 = c .before in
+    let if2 = if3 .before in
+    let if1 = if2 .before in
+    let is-query = if1 .before in
+    let start = is-query .before in
+    rw (
+      sym (is-query .is-query .ensures) ∙ (if1 .if1 .taken),
+      ne-eqb _ _ (if2 .if2 .left),
+      ne-eqb _ _ (if3 .if3 .left),
+      ne-eqb _ _ (c .if4 .left),
+    ) (or-false (eqb (start .args .kind) 255))
 
 returns-5 : tie.Need-returns-5
 unfolding kindFits

@@ -2,31 +2,43 @@
 -- Assumes nothing.
 use borrow.Author.Tests.{not-true, not-false, lt-leb, le-leb}
 use native.Mathlib.Omega.{arith}
-use mathlib.Core.Path.{_∙_, sym}
+use mathlib.Core.Path.{_≡_, _∙_, sym}
+use mathlib.Core.Bool.{true, false}
 use lib.ListN.{length}
+use Rattle.frame.specs.Rules.{knownVersion}
+use Rattle.rpc.specs.Rules.{isBare}
 use Rattle.rpc.specs.Read.{readOf}
 use borrow.Author.Needs.{needs}
 use Rattle.rpc.proofs.read.Statement.{statement}
 use Rattle.rpc.proofs.read.Tie as tie
 
+-- what a test has shown where it is passed
+listed : (c : tie.Else1) → knownVersion (c .before .before .before .args .version) ≡ true
+listed c = sym (c .before .known-version .ensures) ∙ not-false (c .before .known-version .result) (c .if1 .left)
+
+headed : (c : tie.Else2) → isBare (c .before .before .before .before .before .args .form) (c .before .before .before .before .before .args .version) ≡ false
+headed c = sym (c .before .is-bare .ensures) ∙ (c .if2 .left)
+
 returns : tie.Need-returns
 unfolding readOf
-returns c = rw ((sym (c .before .known-version .ensures) ∙ not-true (c .before .known-version .result) (c .if1 .taken)))
+returns c = rw (sym (c .before .known-version .ensures) ∙ not-true (c .before .known-version .result) (c .if1 .taken))
 
 returns-2 : tie.Need-returns-2
 unfolding readOf
-returns-2 c = rw ((sym (c .before .before .before .known-version .ensures) ∙ not-false (c .before .before .before .known-version .result) (c .before .before .if1 .left)), (sym (c .before .is-bare .ensures) ∙ (c .if2 .taken)))
+returns-2 c = rw (listed (c .before .before), sym (c .before .is-bare .ensures) ∙ (c .if2 .taken))
 
 returns-3 : tie.Need-returns-3
 unfolding readOf
-returns-3 c = rw ((sym (c .before .before .before .before .known-version .ensures) ∙ not-false (c .before .before .before .before .known-version .result) (c .before .before .before .if1 .left)), (sym (c .before .before .is-bare .ensures) ∙ (c .before .if2 .left)), lt-leb 12 (length (c .before .before .before .before .before .before .args .payload .now)) (omega arith))
-
-read-whole-requires : tie.Need-read-whole-requires
-read-whole-requires c κs = omega arith
+returns-3 c =
+    let bare = c .before in
+    rw (listed (bare .before .before), headed bare, lt-leb 12 (length (bare .before .before .before .before .before .args .payload .now)) (omega arith))
 
 returns-4 : tie.Need-returns-4
 unfolding readOf
-returns-4 c = rw ((sym (c .before .before .before .before .before .known-version .ensures) ∙ not-false (c .before .before .before .before .before .known-version .result) (c .before .before .before .before .if1 .left)), (sym (c .before .before .before .is-bare .ensures) ∙ (c .before .before .if2 .left)), le-leb 12 (length (c .before .before .before .before .before .before .before .args .payload .now)) (omega arith)) (c .read-whole .ensures)
+returns-4 c =
+    let bare = c .before .before in
+    let long = le-leb 12 (length (bare .before .before .before .before .before .args .payload .now)) (omega arith) in
+    rw (listed (bare .before .before), headed bare, long) (c .read-whole .ensures)
 
 pub read-spec : {M : Type 1} → statement M
 read-spec =
@@ -37,5 +49,5 @@ read-spec =
     (λ c κs. search needs)  -- is-bare-requires
     returns-2
     returns-3
-    read-whole-requires
+    (λ c κs. omega arith)  -- read-whole-requires
     returns-4)

@@ -7,10 +7,23 @@ use Rattle.rpc.proofs.read_whole.Statement.{statement}
 use Rattle.rpc.proofs.read_whole.Tie as tie
 
 returns : tie.Need-returns
-returns c = message-refused (c .before .before .before .before .before .args .form) (c .before .before .before .before .before .args .payload .now) (c .before .fault .result) (c .before .before .before .fields-in .result) (c .before .before .before .fields-in .ensures) (c .before .fault .ensures) (λ e. omega arith)
+returns c =
+    let fault = c .before in
+    let fields-in = fault .before .before in
+    let start = fields-in .before .before in
+    let a = start .args in
+    message-refused (a .form) (a .payload .now) (fault .fault .result) (fields-in .fields-in .result) (fields-in .fields-in .ensures) (fault .fault .ensures)
+    (λ e. omega arith)
 
 returns-2 : tie.Need-returns-2
-returns-2 c = message-read (c .before .before .before .before .before .before .args .form) (c .before .before .before .before .before .before .args .payload .now) (c .before .before .fault .result) (c .before .before .before .before .fields-in .result) (c .header-of .result) (c .before .before .before .before .fields-in .ensures) (c .before .before .fault .ensures) (c .before .if1 .left) (c .header-of .ensures)
+returns-2 c =
+    let if1 = c .before in
+    let fault = if1 .before in
+    let fields-in = fault .before .before in
+    let start = fields-in .before .before in
+    let a = start .args in
+    message-read (a .form) (a .payload .now) (fault .fault .result) (fields-in .fields-in .result) (c .header-of .result) (fields-in .fields-in .ensures)
+    (fault .fault .ensures) (if1 .if1 .left) (c .header-of .ensures)
 
 pub read-whole-spec : {M : Type 1} → statement M
 read-whole-spec =

@@ -7,10 +7,17 @@ use Rattle.rpc.proofs.word_of.Statement.{statement}
 use Rattle.rpc.proofs.word_of.Tie as tie
 
 mul-result : tie.Need-mul-result
-mul-result c = rw (c .id-span .ensures) (record { fits = omega (arith, word-fits (c .before .before .args .form) (c .before .before .args .fields .kind) (c .before .before .args .fields .id) (c .before .before .pre .0) (c .before .before .pre .1)) })
+mul-result c =
+    let start = c .before .before in
+    let a = start .args in
+    rw (c .id-span .ensures) (record { fits = omega (arith, word-fits (a .form) (a .fields .kind) (a .fields .id) (start .pre .0) (start .pre .1)) })
 
 add-result : tie.Need-add-result
-add-result c = rw (c .before .id-span .ensures) (record { fits = word-fits (c .before .before .before .args .form) (c .before .before .before .args .fields .kind) (c .before .before .before .args .fields .id) (c .before .before .before .pre .0) (c .before .before .before .pre .1) })
+add-result c =
+    let id-span = c .before in
+    let start = id-span .before .before in
+    let a = start .args in
+    rw (id-span .id-span .ensures) (record { fits = word-fits (a .form) (a .fields .kind) (a .fields .id) (start .pre .0) (start .pre .1) })
 
 returns : tie.Need-returns
 returns c = rw (c .before .id-span .ensures)

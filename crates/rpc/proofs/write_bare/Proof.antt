@@ -16,10 +16,17 @@ returns c = rw (ne-eqb (length (c .before .before .before .before .args .bulk .n
 
 returns-2 : tie.Need-returns-2
 unfolding bareOf
-returns-2 c = rw (eq-eqb (length (c .before .before .before .before .before .args .bulk .now)) 0 (omega arith), lt-leb (length (c .before .before .before .before .before .args .json .now)) (length (c .before .before .before .before .before .args .out .now)) (omega arith))
+returns-2 c =
+    let start = c .before .before .before .before .before in
+    let a = start .args in
+    rw (eq-eqb (length (a .bulk .now)) 0 (omega arith), lt-leb (length (a .json .now)) (length (a .out .now)) (omega arith))
 
 returns-3 : tie.Need-returns-3
-returns-3 c = bare-put (c .before .before .before .before .before .before .before .before .before .args .json .now) (c .before .before .before .before .before .before .before .before .before .args .bulk .now) (c .before .before .before .before .before .before .before .before .before .args .out .now) _ _ (omega arith) (omega arith) (c .before .before .copy .ensures) refl
+returns-3 c =
+    let copy = c .before .before in
+    let start = copy .before .before .before .before .before .before .before in
+    let a = start .args in
+    bare-put (a .json .now) (a .bulk .now) (a .out .now) _ _ (omega arith) (omega arith) (copy .copy .ensures) refl
 
 pub write-bare-spec : {M : Type 1} → statement M
 write-bare-spec =

@@ -7,24 +7,46 @@ use Rattle.rpc.proofs.write_whole.Statement.{statement}
 use Rattle.rpc.proofs.write_whole.Tie as tie
 
 returns : tie.Need-returns
-returns c = whole-refused _ _ _ (c .before .before .before .before .before .before .before .args .json .now) (c .before .before .before .before .before .before .before .args .bulk .now) _ _ _ (c .before .before .before .form-in .ensures) (c .before .before .fields-of .ensures) (c .before .fault .ensures) (λ e. omega arith)
+returns c =
+    let a = c .before .before .before .before .before .before .before .args in
+    whole-refused _ _ _ (a .json .now) (a .bulk .now) _ _ _ (c .before .before .before .form-in .ensures) (c .before .before .fields-of .ensures)
+    (c .before .fault .ensures) (λ e. omega arith)
 
 add-front : tie.Need-add-front
-add-front c = record { fits = omega (arith, whole-sized (c .before .before .before .before .before .before .before .args .header) _ _ (c .before .before .before .before .before .before .before .args .json .now) (c .before .before .before .before .before .before .before .args .bulk .now) (c .before .before .before .before .before .before .before .args .out .now) _ _ (c .before .before .before .form-in .ensures) (c .before .before .fields-of .ensures) (c .before .fault .ensures) (c .if1 .left)) }
+add-front c =
+    let a = c .before .before .before .before .before .before .before .args in
+    let sized = whole-sized (a .header) _ _ (a .json .now) (a .bulk .now) (a .out .now) _ _ (c .before .before .before .form-in .ensures)
+    (c .before .before .fields-of .ensures) (c .before .fault .ensures) (c .if1 .left) in
+    record { fits = omega (arith, sized) }
 
 returns-2 : tie.Need-returns-2
-returns-2 c = whole-small _ _ _ (c .before .before .before .before .before .before .before .before .args .json .now) (c .before .before .before .before .before .before .before .before .args .bulk .now) _ _ _ (c .before .before .before .before .form-in .ensures) (c .before .before .before .fields-of .ensures) (c .before .before .fault .ensures) (c .before .if1 .left) (omega arith)
+returns-2 c =
+    let judged = c .before in
+    let a = judged .before .before .before .before .before .before .before .args in
+    whole-small _ _ _ (a .json .now) (a .bulk .now) _ _ _ (judged .before .before .before .form-in .ensures) (judged .before .before .fields-of .ensures)
+    (judged .before .fault .ensures) (judged .if1 .left) (omega arith)
 
 returns-3 : tie.Need-returns-3
-returns-3 c = whole-small _ _ _ (c .before .before .before .before .before .before .before .before .before .args .json .now) (c .before .before .before .before .before .before .before .before .before .args .bulk .now) _ _ _ (c .before .before .before .before .before .form-in .ensures) (c .before .before .before .before .fields-of .ensures) (c .before .before .before .fault .ensures) (c .before .before .if1 .left) (omega arith)
+returns-3 c =
+    let judged = c .before .before in
+    let a = judged .before .before .before .before .before .before .before .args in
+    whole-small _ _ _ (a .json .now) (a .bulk .now) _ _ _ (judged .before .before .before .form-in .ensures) (judged .before .before .fields-of .ensures)
+    (judged .before .fault .ensures) (judged .if1 .left) (omega arith)
 
 put-whole-requires : tie.Need-put-whole-requires
 put-whole-requires c κs =
-    let s = whole-sound (c .before .before .before .before .before .before .before .before .before .before .args .header) _ _ (c .before .before .before .before .before .before .before .before .before .before .args .json .now) (c .before .before .before .before .before .before .before .before .before .before .args .bulk .now) (c .before .before .before .before .before .before .before .before .before .before .args .out .now) _ _ (c .before .before .before .before .before .before .form-in .ensures) (c .before .before .before .before .before .fields-of .ensures) (c .before .before .before .before .fault .ensures) (c .before .before .before .if1 .left) in
+    let judged = c .before .before .before in
+    let a = judged .before .before .before .before .before .before .before .args in
+    let s = whole-sound (a .header) _ _ (a .json .now) (a .bulk .now) (a .out .now) _ _ (judged .before .before .before .form-in .ensures)
+    (judged .before .before .fields-of .ensures) (judged .before .fault .ensures) (judged .if1 .left) in
     (s .kind, (s .id, omega arith))
 
 returns-4 : tie.Need-returns-4
-returns-4 c = whole-put _ _ _ (c .before .before .before .before .before .before .before .before .before .before .before .before .before .args .json .now) (c .before .before .before .before .before .before .before .before .before .before .before .before .before .args .bulk .now) _ _ _ (c .before .before .before .before .before .before .before .before .before .form-in .ensures) (c .before .before .before .before .before .before .before .before .fields-of .ensures) (c .before .before .before .before .before .before .before .fault .ensures) _ (c .before .before .before .before .before .before .if1 .left) (omega arith) (c .before .before .put-whole .ensures)
+returns-4 c =
+    let judged = c .before .before .before .before .before .before in
+    let a = judged .before .before .before .before .before .before .before .args in
+    whole-put _ _ _ (a .json .now) (a .bulk .now) _ _ _ (judged .before .before .before .form-in .ensures) (judged .before .before .fields-of .ensures)
+    (judged .before .fault .ensures) _ (judged .if1 .left) (omega arith) (c .before .before .put-whole .ensures)
 
 pub write-whole-spec : {M : Type 1} → statement M
 write-whole-spec =

@@ -1,64 +1,43 @@
 -- `smoke::read_in` meets its contract: what `rpc::read` ensures, told answer by answer (`as-message`, `as-bare`).
 -- Assumes nothing.
 use mathlib.Core.Path.{_∙_, sym}
-use Rattle.smoke.proofs.Outcomes.{header-there, as-message, as-bare}
+use Rattle.smoke.proofs.Outcomes.{as-message, as-bare}
 use borrow.Author.Needs.{needs}
 use Rattle.smoke.proofs.read_in.Statement.{statement}
 use Rattle.smoke.proofs.read_in.Tie as tie
 
-read-requires : tie.Need-read-requires
-read-requires c κs = search needs
-
-enum-known-header : tie.Need-enum-known-header
-enum-known-header c = search needs
-
-fields-of-requires : tie.Need-fields-of-requires
-fields-of-requires c κs = search needs
-
-tell-header-requires : tie.Need-tell-header-requires
-tell-header-requires c κs = header-there _ _ _ _ _ _ _ _ (c .before .before .before .before .before .read .ensures) ((c .before .before .before .header .given) .1) (c .before .fields-of .ensures)
-
-enum-told : tie.Need-enum-told
-enum-told c = search needs
-
-tell-none-requires : tie.Need-tell-none-requires
-tell-none-requires c κs = search needs
-
-enum-known-number : tie.Need-enum-known-number
-enum-known-number c = search needs
-
-refused-requires : tie.Need-refused-requires
-refused-requires c κs = search needs
-
-same-length : tie.Need-same-length
-same-length c = search needs
-
 returns : tie.Need-returns
-returns c = (c .before .before .tell-header .ensures) ∙ as-message _ _ _ _ _ _ _ _ (c .before .before .before .before .before .before .before .before .read .ensures) ((c .before .before .before .before .before .before .header .given) .1) (c .before .before .before .before .fields-of .ensures) (c .before .before .before .before .before .before .before .before .before .before .before .args .fields .now)
-
-same-length-2 : tie.Need-same-length-2
-same-length-2 c = search needs
+returns c =
+    let told = c .before .before in
+    let fields = told .before .before in
+    let header = fields .before .before in
+    let read = header .before .before in
+    let start = read .before .before .before in
+    (told .tell .ensures) ∙ as-message _ _ _ _ _ _ _ _ (read .read .ensures) (header .header .given .1) (fields .fields-of .ensures) (start .args .fields .now)
 
 returns-2 : tie.Need-returns-2
-returns-2 c = (c .before .before .tell-none .ensures) ∙ as-bare _ _ _ _ _ _ (c .before .before .before .before .before .before .read .ensures) ((c .before .before .before .before .enum-told .given) .1)
+returns-2 c =
+    let told = c .before .before in
+    let none = told .before .before in
+    let bare = none .before in
+    let read = bare .before .before in
+    (told .tell2 .ensures) ∙ as-bare _ _ _ _ _ _ _ (read .read .ensures) (bare .enum-told .given .1) (none .no-fields .ensures)
 
 returns-3 : tie.Need-returns-3
-returns-3 c = rw ((c .refused .ensures), sym (c .before .before .before .before .read .ensures) ∙ (c .before .before .number .given) .1)
+returns-3 c =
+    let number = c .before .before in
+    rw ((c .refused .ensures), sym (number .before .before .read .ensures) ∙ (number .number .given .1))
 
 pub read-in-spec : {M : Type 1} → statement M
 read-in-spec =
     tie.close
     (tie.spec
-    read-requires
-    enum-known-header
-    fields-of-requires
-    tell-header-requires
-    enum-told
-    tell-none-requires
-    enum-known-number
-    refused-requires
-    same-length
+    (λ c κs. search needs)  -- read-requires
+    (λ c. search needs) (λ c κs. search needs) (λ c κs. search needs)  -- a message: enum-known-header, fields-of-requires, tell-requires
+    (λ c. search needs) (λ c κs. search needs) (λ c κs. search needs)  -- JSON alone: enum-told, no-fields-requires, tell-requires-2
+    (λ c. search needs) (λ c κs. search needs)  -- refused: enum-known-number, refused-requires
+    (λ c. search needs)  -- same-length
     returns
-    same-length-2
+    (λ c. search needs)  -- same-length-2
     returns-2
     returns-3)

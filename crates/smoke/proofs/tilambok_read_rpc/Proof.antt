@@ -1,30 +1,16 @@
--- `smoke::tilambok_read_rpc` meets its contract: what `read_in` ensures, in the form that the number names.
+-- `smoke::tilambok_read_rpc` meets its contract: what `read_known` ensures, in the form that the number names.
 -- Assumes nothing.
 use mathlib.Core.Path.{_∙_, sym}
 use borrow.Author.Needs.{needs}
 use Rattle.smoke.proofs.tilambok_read_rpc.Statement.{statement}
 use Rattle.smoke.proofs.tilambok_read_rpc.Tie as tie
 
-form-from-requires : tie.Need-form-from-requires
-form-from-requires c κs = search needs
-
-enum-known-known : tie.Need-enum-known-known
-enum-known-known c = search needs
-
-read-in-requires : tie.Need-read-in-requires
-read-in-requires c κs = search needs
-
-enum-told : tie.Need-enum-told
-enum-told c = search needs
-
-refused-requires : tie.Need-refused-requires
-refused-requires c κs = search needs
-
-same-length : tie.Need-same-length
-same-length c = search needs
-
 returns : tie.Need-returns
-returns c = rw (sym (c .before .before .before .before .before .before .before .form-from .ensures) ∙ (c .before .before .before .before .before .known .given) .1) (c .before .before .read-in .ensures)
+returns c =
+    let read-known = c .before .before in
+    let known = read-known .before .before .before in
+    let form-from = known .before .before in
+    rw (sym (form-from .form-from .ensures) ∙ (known .known .given) .1) (read-known .read-known .ensures)
 
 returns-2 : tie.Need-returns-2
 returns-2 c = rw ((c .refused .ensures), sym (c .before .before .before .form-from .ensures) ∙ (c .before .enum-told .given) .1)
@@ -33,11 +19,7 @@ pub tilambok-read-rpc-spec : {M : Type 1} → statement M
 tilambok-read-rpc-spec =
     tie.close
     (tie.spec
-    form-from-requires
-    enum-known-known
-    read-in-requires
-    enum-told
-    refused-requires
-    same-length
+    (λ c κs. search needs) (λ c. search needs) (λ c κs. search needs)  -- form-from-requires, enum-known-known, read-known-requires
+    (λ c. search needs) (λ c κs. search needs) (λ c. search needs)  -- enum-told, refused-requires, same-length
     returns
     returns-2)

@@ -4,14 +4,12 @@ use borrow.Author.Needs.{needs}
 use Rattle.smoke.proofs.tilambok_rpc_form.Statement.{statement}
 use Rattle.smoke.proofs.tilambok_rpc_form.Tie as tie
 
-form-of-requires : tie.Need-form-of-requires
-form-of-requires c κs = search needs
-
-form-code-requires : tie.Need-form-code-requires
-form-code-requires c κs = search needs
-
 returns : tie.Need-returns
 returns c = rw ((c .form-code .ensures), (c .before .form-of .ensures))
 
 pub tilambok-rpc-form-spec : {M : Type 1} → statement M
-tilambok-rpc-form-spec = tie.close (tie.spec form-of-requires form-code-requires returns)
+tilambok-rpc-form-spec =
+    tie.close
+    (tie.spec
+    (λ c κs. search needs) (λ c κs. search needs)  -- form-of-requires, form-code-requires
+    returns)

@@ -16,7 +16,10 @@ returns-2 c = rw (sym (c .before .before .before .before .is .ensures) ∙ (c .b
 
 returns-3 : tie.Need-returns-3
 unfolding formWord
-returns-3 c = rw (sym (c .before .before .before .before .before .before .is .ensures) ∙ (c .before .before .before .before .before .if1 .left), sym (c .before .before .before .is2 .ensures) ∙ (c .before .before .if2 .left), c .is3 .ensures)
+returns-3 c =
+    let bulk = c .before .before in
+    let rpc = bulk .before .before .before in
+    rw (sym (rpc .before .is .ensures) ∙ (rpc .if1 .left), sym (bulk .before .is2 .ensures) ∙ (bulk .if2 .left), c .is3 .ensures)
 
 pub named-spec : {M : Type 1} → statement M
 named-spec =

@@ -16,7 +16,10 @@ returns-2 c = rw (sym (c .before .before .before .before .is .ensures) ∙ (c .b
 
 returns-3 : tie.Need-returns-3
 unfolding rpcFormOf
-returns-3 c = rw (sym (c .before .before .before .before .before .is .ensures) ∙ (c .before .before .before .before .if1 .left), sym (c .before .before .is2 .ensures) ∙ (c .before .if2 .left)) (c .link-form .ensures)
+returns-3 c =
+    let second = c .before in
+    let first = second .before .before .before in
+    rw (sym (first .before .is .ensures) ∙ (first .if1 .left), sym (second .before .is2 .ensures) ∙ (second .if2 .left)) (c .link-form .ensures)
 
 pub rpc-form-spec : {M : Type 1} → statement M
 rpc-form-spec =

@@ -18,9 +18,12 @@ add-t12 c = omega (arith, within _ _ (c .before .before .before .before .before 
 
 returns : tie.Need-returns
 returns c =
-    let a = c .before .before .before .before .before .before .before .before .before .before .before .before .before .before .before .before .args in
-    two-are (a .line .now) (a .content .now) (a .end) (c .before .before .before .before .before .before .before .before .before .before .before .before .before .word-end .ensures) (c .before .before .before .before .before .before .before .before .before .before .before .before .between .ensures) (c .before .before .before .before .before .before .before .between2 .ensures)
-    (c .before .before .before .before .before .before .before .before .before .before .hex .ensures) (c .before .before .before .before .before .hex2 .ensures) refl
+    let second = c .before .before .before .before .before in
+    let first = second .before .before .before .before .before in
+    let end = first .before .before .before in
+    let a = end .before .before .before .args in
+    two-are (a .line .now) (a .content .now) (a .end) (end .word-end .ensures) (first .before .before .between .ensures) (second .before .before .between2 .ensures)
+    (first .hex .ensures) (second .hex2 .ensures) refl
 
 pub two-words-spec : {M : Type 1} → statement M
 two-words-spec =

@@ -1,7 +1,10 @@
 -- `driver::commands::obey` meets its contract, by the command's kind.
 -- Assumes nothing.
-use mathlib.Core.Path.{refl, _∙_, sym}
+use Prim.Native.Nat.{ℕ}
+use mathlib.Core.Path.{_≡_, refl, _∙_, sym}
+use mathlib.Core.Bool.{false}
 use mathlib.Core.List.{[]}
+use lib.Dec.{eqb}
 use borrow.Author.Tests.{eq-eqb, ne-eqb}
 use Rattle.driver.specs.Answers.{answerTo}
 use Rattle.text.proofs.Texts.{started}
@@ -17,26 +20,39 @@ returns c = rw (eq-eqb (c .before .before .args .command .kind) 7 (c .if1 .taken
 returns-2 : tie.Need-returns-2
 unfolding answerTo
 returns-2 c =
-    let k = c .before .before .before .before .before .before .args .command .kind in
-    rw (ne-eqb k 7 (c .before .before .before .before .if1 .left), eq-eqb k 4 (c .before .before .before .if2 .taken)) (c .lay-plain .ensures ∙ line-held (held (c .before .before .read-payload .ensures)) [])
+    let fourth = c .before .before .before in
+    let seventh = fourth .before in
+    let k = seventh .before .before .args .command .kind in
+    rw (ne-eqb k 7 (seventh .if1 .left), eq-eqb k 4 (fourth .if2 .taken)) (c .lay-plain .ensures ∙ line-held (held (c .before .before .read-payload .ensures)) [])
 
 returns-3 : tie.Need-returns-3
 unfolding answerTo
 returns-3 c =
-    let k = c .before .before .before .before .before .before .args .command .kind in
-    rw (ne-eqb k 7 (c .before .before .before .before .if1 .left), ne-eqb k 4 (c .before .before .before .if2 .left), eq-eqb k 8 (c .before .before .if3 .taken)) (c .read .ensures)
+    let eighth = c .before .before in
+    let fourth = eighth .before in
+    let seventh = fourth .before in
+    let k = seventh .before .before .args .command .kind in
+    rw (ne-eqb k 7 (seventh .if1 .left), ne-eqb k 4 (fourth .if2 .left), eq-eqb k 8 (eighth .if3 .taken)) (c .read .ensures)
+
+-- none of the three kinds before
+no-reader : (c : tie.Else3) → (k : ℕ) → k ≡ c .before .before .before .before .args .command .kind → (eqb k 7 ≡ false) × ((eqb k 4 ≡ false) × (eqb k 8 ≡ false))
+no-reader c k e =
+    (ne-eqb k 7 (λ f. (c .before .before .if1 .left) (sym e ∙ f)), (ne-eqb k 4 (λ f. (c .before .if2 .left) (sym e ∙ f)), ne-eqb k 8 (λ f. (c .if3 .left) (sym e ∙ f))))
 
 returns-4 : tie.Need-returns-4
 unfolding answerTo
 returns-4 c =
-    let k = c .before .before .before .before .before .before .before .before .args .command .kind in
-    rw (ne-eqb k 7 (c .before .before .before .before .before .before .if1 .left), ne-eqb k 4 (c .before .before .before .before .before .if2 .left), ne-eqb k 8 (c .before .before .before .before .if3 .left), sym (c .before .before .before .fills .ensures) ∙ c .before .before .if4 .taken) (c .fill .ensures)
+    let fills = c .before .before .before in
+    let none = no-reader (fills .before) _ refl in
+    rw (none .0, none .1 .0, none .1 .1, sym (fills .fills .ensures) ∙ c .before .before .if4 .taken) (c .fill .ensures)
 
 returns-5 : tie.Need-returns-5
 unfolding answerTo
 returns-5 c =
-    let k = c .before .before .before .before .before .before .before .before .before .before .args .command .kind in
-    rw (ne-eqb k 7 (c .before .before .before .before .before .before .before .before .if1 .left), ne-eqb k 4 (c .before .before .before .before .before .before .before .if2 .left), ne-eqb k 8 (c .before .before .before .before .before .before .if3 .left), sym (c .before .before .before .before .before .fills .ensures) ∙ c .before .before .before .before .if4 .left) (c .lay-plain2 .ensures ∙ line-held (held (started (c .before .before .before .empty .ensures) (c .before .before .byte .ensures))) [])
+    let test = c .before .before .before .before in
+    let none = no-reader (test .before .before) _ refl in
+    let answer = held (started (c .before .before .before .empty .ensures) (c .before .before .byte .ensures)) in
+    rw (none .0, none .1 .0, none .1 .1, sym (test .before .fills .ensures) ∙ test .if4 .left) (c .lay-plain2 .ensures ∙ line-held answer [])
 
 pub obey-spec : {M : Type 1} → statement M
 obey-spec =

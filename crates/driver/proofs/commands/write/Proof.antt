@@ -12,19 +12,27 @@ use Rattle.driver.proofs.commands.write.Tie as tie
 
 returns : tie.Need-returns
 returns c =
-    let a = c .before .before .before .before .before .before .before .before .before .args in
-    rw (eq-eqb (a .command .kind) 2 (c .before .before .before .before .before .if1 .taken)) (c .before .before .write .ensures ∙ ap (λ (h : Header). writeOf h (a .input .now) (a .out .now)) (c .before .before .before .before .header-of .ensures))
+    let write = c .before .before in
+    let a = write .before .before .before .before .before .before .before .args in
+    rw (eq-eqb (a .command .kind) 2 (write .before .before .before .if1 .taken))
+    (write .write .ensures ∙ ap (λ (h : Header). writeOf h (a .input .now) (a .out .now)) (write .before .before .header-of .ensures))
 
 returns-2 : tie.Need-returns-2
 returns-2 c =
-    let a = c .before .before .before .before .before .before .before .before .before .before .args in
-    rw (ne-eqb (a .command .kind) 2 (c .before .before .before .before .before .before .if1 .left), eq-eqb (a .command .kind) 9 (c .before .before .before .before .if2 .taken)) (c .before .before .write2 .ensures)
+    let ninth = c .before .before .before .before in
+    let second = ninth .before .before in
+    let k = second .before .before .before .before .args .command .kind in
+    rw (ne-eqb k 2 (second .if1 .left), eq-eqb k 9 (ninth .if2 .taken)) (c .before .before .write2 .ensures)
 
 returns-3 : tie.Need-returns-3
 returns-3 c =
-    let a = c .before .before .before .before .before .before .before .before .before .before .before .before .args in
-    let k = c .before .before .before .before .wide .result in
-    rw (ne-eqb (a .command .kind) 2 (c .before .before .before .before .before .before .before .before .if1 .left), ne-eqb (a .command .kind) 9 (c .before .before .before .before .before .before .if2 .left)) (c .before .before .send .ensures ∙ ap (λ (o : Outgoing). sendOf o k (a .input .now) (a .out .now)) (c .before .before .before .before .before .outgoing-of .ensures) ∙ rw (c .before .before .before .before .wide .ensures))
+    let wide = c .before .before .before .before in
+    let ninth = wide .before .before in
+    let second = ninth .before .before in
+    let a = second .before .before .before .before .args in
+    rw (ne-eqb (a .command .kind) 2 (second .if1 .left), ne-eqb (a .command .kind) 9 (ninth .if2 .left))
+    (c .before .before .send .ensures ∙ ap (λ (o : Outgoing). sendOf o (wide .wide .result) (a .input .now) (a .out .now)) (wide .before .outgoing-of .ensures)
+    ∙ rw (wide .wide .ensures))
 
 pub write-spec : {M : Type 1} → statement M
 write-spec =

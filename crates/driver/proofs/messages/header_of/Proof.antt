@@ -11,7 +11,9 @@ use Rattle.driver.proofs.messages.header_of.Tie as tie
 returns : tie.Need-returns
 returns c =
     let a = c .before .before .before .args in
-    (c .header-of .ensures) ∙ ap (λ (f : Form). layout.headerOf f (c .before .fields-of .result)) (c .before .before .form-of .ensures) ∙ ap (layout.headerOf (formAt (a .command))) (c .before .fields-of .ensures)
+    (c .header-of .ensures)
+    ∙ ap (λ (f : Form). layout.headerOf f (c .before .fields-of .result)) (c .before .before .form-of .ensures)
+    ∙ ap (layout.headerOf (formAt (a .command))) (c .before .fields-of .ensures)
 
 pub header-of-spec : {M : Type 1} → statement M
 header-of-spec =

@@ -11,24 +11,27 @@ use Rattle.driver.proofs.messages.read.Tie as tie
 
 returns : tie.Need-returns
 returns c =
-    let a = c .before .before .before .before .before .before .before .before .before .before .args in
-    let s = a .input .now in
-    rpc-read (a .command) s (c .before .before .before .before .before .before .before .before .form-of .ensures) (c .before .before .before .before .before .before .before .byte .ensures) (c .before .before .before .before .before .before .read .ensures)
-    (message-line s (c .lay-parts .ensures) (c .before .before .before .before .reading .given .1) (c .before .before .message-text .ensures))
+    let told = c .before .before .before .before in
+    let read = told .before .before in
+    let start = read .before .before .before .before in
+    rpc-read (start .args .command) (start .args .input .now) (read .before .before .form-of .ensures) (read .before .byte .ensures) (read .read .ensures)
+    (message-line (start .args .input .now) (c .lay-parts .ensures) (told .reading .given .1) (c .before .before .message-text .ensures))
 
 returns-2 : tie.Need-returns-2
 returns-2 c =
-    let a = c .before .before .before .before .before .before .before .before .before .before .args in
-    let s = a .input .now in
-    rpc-read (a .command) s (c .before .before .before .before .before .before .before .before .form-of .ensures) (c .before .before .before .before .before .before .before .byte .ensures) (c .before .before .before .before .before .before .read .ensures)
-    (bare-line s (c .lay-parts2 .ensures) (c .before .before .before .before .reading2 .given .1) (c .before .before .bare-text .ensures))
+    let told = c .before .before .before .before in
+    let read = told .before .before in
+    let start = read .before .before .before .before in
+    rpc-read (start .args .command) (start .args .input .now) (read .before .before .form-of .ensures) (read .before .byte .ensures) (read .read .ensures)
+    (bare-line (start .args .input .now) (c .lay-parts2 .ensures) (told .reading2 .given .1) (c .before .before .bare-text .ensures))
 
 returns-3 : tie.Need-returns-3
 returns-3 c =
-    let a = c .before .before .before .before .before .before .before .before .before .before .args in
-    let s = a .input .now in
-    rpc-read (a .command) s (c .before .before .before .before .before .before .before .before .form-of .ensures) (c .before .before .before .before .before .before .before .byte .ensures) (c .before .before .before .before .before .before .read .ensures)
-    ((c .lay-plain .ensures) ∙ line-held (held (c .before .before .refused .ensures)) [] ∙ ap (rpcBy s) (sym (c .before .before .before .before .reading3 .given .1)))
+    let told = c .before .before .before .before in
+    let read = told .before .before in
+    let s = read .before .before .before .before .args .input .now in
+    rpc-read (read .before .before .before .before .args .command) s (read .before .before .form-of .ensures) (read .before .byte .ensures) (read .read .ensures)
+    ((c .lay-plain .ensures) ∙ line-held (held (c .before .before .refused .ensures)) [] ∙ ap (rpcBy s) (sym (told .reading3 .given .1)))
 
 pub read-spec : {M : Type 1} → statement M
 read-spec =

@@ -7,8 +7,13 @@ use Rattle.driver.proofs.messages.write.Tie as tie
 
 returns : tie.Need-returns
 returns c =
-    let a = c .before .before .before .before .before .before .before .before .before .before .before .args in
-    rpc-wrote (a .command) (a .input .now) (a .out .now) (c .before .before .before .before .before .before .byte .ensures) (c .before .before .before .before .before .header-of .ensures) (c .before .before .before .before .wide .ensures) (c .before .before .before .before .before .before .before .before .front .ensures) (c .before .before .before .before .before .before .before .part .ensures) (c .before .before .write .ensures)
+    let write = c .before .before in
+    let header = write .before .before .before in
+    let part = header .before .before in
+    let front = part .before in
+    let a = front .before .before .before .args in
+    rpc-wrote (a .command) (a .input .now) (a .out .now) (header .before .byte .ensures) (header .header-of .ensures) (write .before .before .wide .ensures)
+    (front .front .ensures) (part .part .ensures) (write .write .ensures)
 
 pub write-spec : {M : Type 1} → statement M
 write-spec =
