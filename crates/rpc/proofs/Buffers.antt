@@ -24,16 +24,13 @@ use Rattle.rpc.specs.declared.Header.{Header}
 use Rattle.rpc.proofs.Forms.{Sound, no-fault}
 
 -- so many bytes the header has, and the header with the JSON
+three-length : (x y z : ℕ) → length (bytesBe 4 x ++ bytesBe 4 y ++ bytesBe 4 z) ≡ 12
+three-length x y z =
+    rw (length-append (bytesBe 4 x ++ bytesBe 4 y) (bytesBe 4 z), length-append (bytesBe 4 x) (bytesBe 4 y), length-be 4 x, length-be 4 y, length-be 4 z)
+
 pub layout-length : (form : Form) (f : Fields) → length (layoutBytes form f) ≡ 12
 unfolding layoutBytes
-layout-length form f =
-    rw (
-      length-append (bytesBe 4 (f .kind * idSpan form + f .id) ++ bytesBe 4 (f .number)) (bytesBe 4 (f .size)),
-      length-append (bytesBe 4 (f .kind * idSpan form + f .id)) (bytesBe 4 (f .number)),
-      length-be 4 (f .kind * idSpan form + f .id),
-      length-be 4 (f .number),
-      length-be 4 (f .size),
-    )
+layout-length form f = three-length _ _ _
 
 pub front-length : (form : Form) (f : Fields) (json : List ℕ) → length (layoutBytes form f ++ json) ≡ 12 + length json
 front-length form f json = length-append (layoutBytes form f) json ∙ ap (λ (n : ℕ). n + length json) (layout-length form f)

@@ -8,10 +8,10 @@ use native.Mathlib.Omega.{arith}
 use lib.Dec.{eqb, leb, ltb}
 use borrow.Author.Tests.{leb-true, ltb-true, eqb-true}
 use Rattle.numbers.specs.Bytes.{pick}
-use Rattle.numbers.proofs.Choices.{either}
+use Rattle.numbers.proofs.Choices.{split, either}
 use Rattle.frame.specs.Rules.{isIn}
 use Rattle.frame.proofs.Laws.{passed}
-use Rattle.rpc.specs.Rules.{isQuery, idSpan, kindFits, idFits, mayEnd, faultOf}
+use Rattle.rpc.specs.Rules.{isQuery, idSpan, kindFits, idFits, mayEnd, sizeFault, faultOf}
 use Rattle.rpc.specs.declared.Form.{Form}
 use Rattle.rpc.specs.declared.Fields.{Fields}
 
@@ -90,6 +90,21 @@ no-fault form f sized ends e =
 pub sound-none : (form : Form) (f : Fields) (sized ends : Bool) → Sound form f sized ends → faultOf form f sized ends ≡ 0
 unfolding faultOf
 sound-none form f sized ends s = rw (s .kind, s .id, s .size, s .end)
+
+-- a fault of the header is the message's, whatever the sizes are; without one the message's is that of the sizes
+pub fault-early : (form : Form) (f : Fields) (sized ends : Bool) (n : ℕ) → n ≡ faultOf form f true true → (n ≡ 0 → ⊥) → n ≡ faultOf form f sized ends
+unfolding faultOf
+fault-early form f sized ends n e z =
+    split (kindFits form (f .kind))
+    (λ k. split (idFits form (f .id)) (λ i. absurd (z (e ∙ rw (k, i)))) (λ i. e ∙ rw (k, i)))
+    (λ k. e ∙ rw k)
+
+pub fault-late : (form : Form) (f : Fields) (sized ends : Bool) (n m : ℕ) → n ≡ faultOf form f true true → n ≡ 0 → m ≡ sizeFault form sized ends
+    → m ≡ faultOf form f sized ends
+unfolding faultOf
+fault-late form f sized ends n m e z g =
+    let s = no-fault form f true true (sym e ∙ z) in
+    rw (s .kind, s .id) g
 
 pub and-true : (b : Bool) → b ≡ b && true
 and-true true = refl

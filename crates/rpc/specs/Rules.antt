@@ -47,11 +47,13 @@ idFits form id = pick (isQuery form) (isIn id (1 ∷ 2 ∷ 0xFFFFFF ∷ [])) (lt
 abbrev pub mayEnd : Form → Bool → Bool
 mayEnd form ends = ends || not (isRpc form)
 
--- "New refusals, .. in this order": the first of 41 to 44, or 0. Whether the JSON size fits (43) and whether the payload ends with the JSON is for reader
--- and writer to say
+-- 43 and 44. Whether the JSON size fits (43) and whether the payload ends with the JSON is for reader and writer to say
+abbrev pub sizeFault : Form → Bool → Bool → ℕ
+sizeFault form fits ends = unless fits 43 (unless (mayEnd form ends) 44 0)
+
+-- "New refusals, .. in this order": the first of 41 to 44, or 0
 unfoldable pub faultOf : Form → Fields → Bool → Bool → ℕ
 faultOf form f fits ends =
     unless (kindFits form (f .kind)) 41
     (unless (idFits form (f .id)) 42
-    (unless fits 43
-    (unless (mayEnd form ends) 44 0)))
+    (sizeFault form fits ends))

@@ -10,7 +10,7 @@ ghost use lib.ListN.{length};
 ghost use Rattle.numbers.specs.Bytes.{part, laid};
 ghost use Rattle.numbers.specs.Numbers.{valueBe};
 ghost use Rattle.frame.specs.Write.{wrote};
-ghost use Rattle.rpc.specs.Rules.{formOf, isRpc, isQuery, isBare, idSpan, kindFits, idFits, faultOf};
+ghost use Rattle.rpc.specs.Rules.{formOf, isRpc, isQuery, isBare, idSpan, kindFits, idFits, sizeFault, faultOf};
 ghost use Rattle.rpc.specs.Layout.{layoutBytes, fieldsIn, functionOf, queryOf, headerOf, formIn, functionFields, queryFields, fieldsOf};
 ghost use Rattle.rpc.specs.Read.{messageIn, readOf};
 ghost use Rattle.rpc.specs.Write.{bareOf, wholeOf, writeOf};
@@ -181,9 +181,9 @@ fn id_fits(form: Form, id: u32) -> bool
     id < 268435456
 }
 
-// The first of 41 to 44 that a message earns, or 0. `sized`: the JSON size is right; `ends`: nothing follows the JSON.
-fn fault(form: Form, fields: Fields, sized: bool, ends: bool) -> u8
-    ensures { λ r. ⌜ r ≡ faultOf form fields sized ends ⌝ }
+// The first of 41 and 42 that a header earns, whatever the sizes are, or 0.
+fn header_fault(form: Form, fields: Fields) -> u8
+    ensures { λ r. ⌜ r ≡ faultOf form fields true true ⌝ }
 {
     if !kind_fits(form, fields.kind) {
         return refusal::TYPE;
@@ -191,6 +191,13 @@ fn fault(form: Form, fields: Fields, sized: bool, ends: bool) -> u8
     if !id_fits(form, fields.id) {
         return refusal::ID;
     }
+    0
+}
+
+// The first of 43 and 44, which come behind those, or 0. `sized`: the JSON size is right; `ends`: nothing follows the JSON.
+fn size_fault(form: Form, sized: bool, ends: bool) -> u8
+    ensures { λ r. ⌜ r ≡ sizeFault form sized ends ⌝ }
+{
     if !sized {
         return refusal::JSON_SIZE;
     }
@@ -265,9 +272,13 @@ fn read_whole(form: Form, payload: &[u8]) -> Reading
     let fields = fields_in(form, payload);
     let size = fields.size as usize;
     let behind = payload.len() - 12;
-    let number = fault(form, fields, size <= behind, behind <= size);
-    if number != 0 {
-        return Reading::Refused(number);
+    let early = header_fault(form, fields);
+    if early != 0 {
+        return Reading::Refused(early);
+    }
+    let late = size_fault(form, size <= behind, behind <= size);
+    if late != 0 {
+        return Reading::Refused(late);
     }
     let bulk = 12 + size;
     Reading::Message(
@@ -449,9 +460,13 @@ fn write_whole(
 {
     let form = form_in(header);
     let fields = fields_of(header, size);
-    let number = fault(form, fields, size as usize == json.len(), bulk.len() == 0);
-    if number != 0 {
-        return frame::Written::Refused(number);
+    let early = header_fault(form, fields);
+    if early != 0 {
+        return frame::Written::Refused(early);
+    }
+    let late = size_fault(form, size as usize == json.len(), bulk.len() == 0);
+    if late != 0 {
+        return frame::Written::Refused(late);
     }
     let front = 12 + json.len();
     if out.len() < front {
