@@ -4,7 +4,7 @@ use mathlib.Core.Path.{_≡_}
 use native.Mathlib.Omega.{arith}
 use lib.Dec.{eqb}
 use lib.ListN.{length}
-use Rattle.rpc.specs.Rules.{faultOf}
+use Rattle.rpc.specs.Rules.{sizeFault, faultOf}
 use Rattle.rpc.proofs.Forms.{fault-early, fault-late}
 use Rattle.rpc.proofs.Buffers.{whole-refused, whole-sound, whole-sized, whole-small, whole-put}
 use borrow.Author.Needs.{needs}
@@ -25,7 +25,12 @@ judged : (c : tie.After-size-fault)
     c .size-fault .result
     ≡ faultOf (c .before .before .before .before .form-in .result) (c .before .before .before .fields-of .result) (eqb (a .size) (length (a .json .now)))
     (eqb (length (a .bulk .now)) 0))
-judged c = fault-late _ _ _ _ _ _ (c .before .before .header-fault .ensures) (c .before .if1 .left) (c .size-fault .ensures)
+judged c =
+    let a = c .before .before .before .before .before .before .before .before .args in
+    let sized = eqb (a .size) (length (a .json .now)) in
+    let ends = eqb (length (a .bulk .now)) 0 in
+    let sizes : c .size-fault .result ≡ sizeFault (c .before .before .before .before .form-in .result) sized ends = c .size-fault .ensures in
+    fault-late _ _ sized ends _ _ (c .before .before .header-fault .ensures) (c .before .if1 .left) sizes
 
 returns-2 : tie.Need-returns-2
 returns-2 c =
