@@ -6,7 +6,7 @@ use mathlib.Core.List.{List, [], _∷_, _++_, append-assoc, append-nil}
 use native.Mathlib.Omega.{arith}
 use lib.Dec.{leb}
 use borrow.Author.Tests.{leb-true, leb-false, eq-eqb, ne-eqb}
-use lib.ListN.{length, take, drop, set, length-set, length-append, length-take, length-drop, drop-of-length-le}
+use lib.ListN.{length, take, drop, set, length-append, length-take, length-drop, drop-of-length-le}
 use lib.Seq.{paste, take-all, take-at, take-nil, drop-append-add, drop-drop}
 use borrow.Rule.Slice.PartMut.{putMid}
 use Rattle.numbers.specs.Bytes.{part, pick, putAt, laid}
@@ -66,7 +66,9 @@ module _ (h : Header) (b : ℕ) (o q : List ℕ) (e : b ≡ pick (h .flag) 8 0) 
       = rw (e, eq-eqb (h .version) 1 v, append-nil (bytesBe 4 (h .size))) in
       f ∙ ap (λ (l : List ℕ). laid l o) s
 
-  pub header-more : (h .version ≡ 1 → ⊥) → q ≡ laid ((h .version * 16 + b + h .kind) ∷ h .service .0 ∷ h .info ∷ h .session .0 ∷ (bytesBe 4 (h .size) ++ bytesBe 4 (h .message .0))) o → q ≡ laid (headerBytes h) o
+  pub header-more : (h .version ≡ 1 → ⊥)
+      → q ≡ laid ((h .version * 16 + b + h .kind) ∷ h .service .0 ∷ h .info ∷ h .session .0 ∷ (bytesBe 4 (h .size) ++ bytesBe 4 (h .message .0))) o
+      → q ≡ laid (headerBytes h) o
   unfolding messageBytes
   header-more v f =
       let s : (h .version * 16 + b + h .kind) ∷ h .service .0 ∷ h .info ∷ h .session .0 ∷ (bytesBe 4 (h .size) ++ bytesBe 4 (h .message .0)) ≡ headerBytes h

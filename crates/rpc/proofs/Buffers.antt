@@ -2,16 +2,16 @@
 -- Assumes nothing.
 use Prim.Native.Nat.{ℕ, _+_, _-_, _*_, _≤_, _<_}
 use mathlib.Core.Path.{_≡_, refl, ap, _∙_, sym}
-use mathlib.Core.List.{List, [], _++_, append-assoc, append-nil}
+use mathlib.Core.List.{List, [], _++_, append-nil}
 use native.Mathlib.Omega.{arith}
 use lib.Dec.{eqb}
-use lib.ListN.{length, take, drop, length-append, length-drop, take-append-drop, drop-of-length-le}
-use lib.Seq.{take-all, take-at, drop-at, drop-drop, length-take-le}
+use lib.ListN.{length, take, drop, length-append, drop-of-length-le}
+use lib.Seq.{take-all, take-at}
 use borrow.Rule.Slice.PartMut.{putMid}
 use borrow.Author.Tests.{eq-eqb, ne-eqb, le-leb, lt-leb, eqb-true}
 use Rattle.numbers.specs.Bytes.{putAt, laid}
 use Rattle.numbers.specs.Numbers.{bytesBe}
-use Rattle.numbers.proofs.Laws.{length-be, put-fits}
+use Rattle.numbers.proofs.Laws.{length-be}
 use Rattle.frame.specs.Write.{wrote}
 use Rattle.frame.specs.declared.Written.the-variants.{Bytes, Refused}
 use Rattle.frame.proofs.Buffers.{number-put, bytes-put}

@@ -1,5 +1,6 @@
 -- What the C side gets for the answers of the payload reader and writer: a code, and what is left in the lent bytes.
--- Document 02, request A1: "Our smoke tester needs what is inside joined messages." The numbers of forms and the places of fields are ours, as the C header tells them; codes are those of the frame functions.
+-- Document 02, request A1: "Our smoke tester needs what is inside joined messages." The numbers of forms and the places of fields are ours, as the C header
+-- tells them; codes are those of the frame functions.
 -- Assumes nothing.
 use Prim.Native.Nat.{ℕ}
 use mathlib.Core.List.{List, _∷_, _++_}

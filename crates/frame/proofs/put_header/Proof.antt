@@ -6,6 +6,7 @@ use native.Mathlib.Omega.{arith}
 use Prim.Native.Nat.{_+_, _*_, _≤_}
 use mathlib.Core.List.{_∷_}
 use lib.ListN.{length, length-set}
+use Rattle.numbers.specs.Bytes.{laid}
 use Rattle.numbers.specs.Numbers.{bytesBe}
 use Rattle.numbers.proofs.Laws.{length-be}
 use Rattle.frame.specs.Rules.{headerSize}
@@ -15,64 +16,67 @@ use borrow.Author.Needs.{needs}
 use Rattle.frame.proofs.put_header.Statement.{statement}
 use Rattle.frame.proofs.put_header.Tie as tie
 
+-- a version that is listed; and out has the header's 8 or 12 bytes
+listed : (c : tie.Start) → (1 ≤ c .args .header .version) × (c .args .header .version ≤ 5)
+listed c = version-range (c .args .header .version) (fault-none (c .args .header) (c .pre .0) .version)
+
+room : (c : tie.Start) → 8 ≤ length (c .args .out .now)
+room c = omega (arith, header-range (c .args .header .version), c .pre .1)
+
 mul-out : tie.Need-mul-out
-mul-out c =
-    let h = (c .before .before .args .header) in
-    let s = fault-none h (c .before .before .pre .0) in
-    let r = version-range (h .version) (s .version) in
-    record { fits = omega arith }
+mul-out c = let v = listed (c .before .before) in record { fits = omega arith }
 
 add-out : tie.Need-add-out
 add-out c =
-    let h = (c .before .before .before .args .header) in
-    let s = fault-none h (c .before .before .before .pre .0) in
-    let r = version-range (h .version) (s .version) in
-    record { fits = omega (arith, flag-most (h .flag)) }
+    let start = c .before .before .before in
+    let v = listed start in
+    record { fits = omega (arith, flag-most (start .args .header .flag)) }
 
 add-out-2 : tie.Need-add-out-2
 add-out-2 c =
-    let h = (c .before .before .before .before .args .header) in
-    let s = fault-none h (c .before .before .before .before .pre .0) in
-    let r = version-range (h .version) (s .version) in
-    record { fits = omega (arith, flag-most (h .flag)) }
+    let start = c .before .before .before .before in
+    let v = listed start in
+    let s = fault-none (start .args .header) (start .pre .0) in
+    record { fits = omega (arith, flag-most (start .args .header .flag)) }
 
-slice-write-out : tie.Need-slice-write-out
-slice-write-out c = omega (arith, header-range (c .before .before .before .before .args .header .version), (c .before .before .before .before .pre .1))
-
-slice-write-out-2 : tie.Need-slice-write-out-2
-slice-write-out-2 c = simp length-set (omega (arith, header-range (c .before .before .before .before .args .header .version), (c .before .before .before .before .pre .1)))
-
-slice-write-out-3 : tie.Need-slice-write-out-3
-slice-write-out-3 c = simp length-set (omega (arith, header-range (c .before .before .before .before .args .header .version), (c .before .before .before .before .pre .1)))
-
-slice-write-out-4 : tie.Need-slice-write-out-4
-slice-write-out-4 c = simp length-set (omega (arith, header-range (c .before .before .before .before .args .header .version), (c .before .before .before .before .pre .1)))
-
-same-length : tie.Need-same-length
-same-length c = (c .before .before .before .before .put-be4 .kept .0) ∙ simp length-set
+-- the first 8 bytes are laid
+front : (c : tie.After-put-be4)
+    → (let flag = c .before .before .before in
+    let a = flag .before .before .before .args in
+    let h = a .header in
+    c .put-be4 .last .0 ≡ laid ((h .version * 16 + flag .flag-bit .result + h .kind) ∷ h .service .0 ∷ h .info ∷ h .session .0 ∷ bytesBe 4 (h .size)) (a .out .now))
+front c =
+    let start = c .before .before .before .before .before .before in
+    let h = start .args .header in
+    front-put _ (h .service .0) (h .info) (h .session .0) (h .size) (start .args .out .now) _ (room start) (c .put-be4 .ensures)
 
 returns : tie.Need-returns
 returns c =
-    let h = (c .before .before .before .before .before .before .before .before .before .before .args .header) in
-    let o = (c .before .before .before .before .before .before .before .before .before .before .args .out .now) in
-    let l : 8 ≤ length o = omega (arith, header-range (h .version), (c .before .before .before .before .before .before .before .before .before .before .pre .1)) in
-    header-one h (c .before .before .before .before .before .before .before .flag-bit .result) o _ (c .before .before .before .before .before .before .before .flag-bit .ensures) (omega (arith, version-range (h .version) (fault-none h (c .before .before .before .before .before .before .before .before .before .before .pre .0) .version)))
-    (front-put (h .version * 16 + (c .before .before .before .before .before .before .before .flag-bit .result) + h .kind) (h .service .0) (h .info) (h .session .0) (h .size) o _ l (c .before .before .before .before .put-be4 .ensures))
+    let put = c .before .before .before .before in
+    let flag = put .before .before .before in
+    let start = flag .before .before .before in
+    let v = listed start in
+    header-one (start .args .header) (flag .flag-bit .result) (start .args .out .now) _ (flag .flag-bit .ensures) (omega arith) (front put)
 
 same-length-2 : tie.Need-same-length-2
-same-length-2 c = (c .before .before .put-be42 .kept .0) ∙ (c .before .before .before .before .before .before .before .before .put-be4 .kept .0) ∙ simp length-set
+same-length-2 c =
+    let second = c .before .before in
+    let first = second .before .before .before .before .before .before in
+    (second .put-be42 .kept .0) ∙ (first .put-be4 .kept .0) ∙ simp length-set
 
 returns-2 : tie.Need-returns-2
 unfolding headerSize
 returns-2 c =
-    let h = (c .before .before .before .before .before .before .before .before .before .before .before .before .before .before .args .header) in
-    let o = (c .before .before .before .before .before .before .before .before .before .before .before .before .before .before .args .out .now) in
-    let l : 8 ≤ length o = omega (arith, header-range (h .version), (c .before .before .before .before .before .before .before .before .before .before .before .before .before .before .pre .1)) in
+    let second = c .before .before in
+    let first = second .before .before .before .before .before .before in
+    let flag = first .before .before .before in
+    let start = flag .before .before .before in
+    let h = start .args .header in
     let more : h .version ≡ 1 → ⊥ = λ e. omega arith in
     let z : headerSize (h .version) ≡ 12 = rw (ne-eqb (h .version) 1 more) in
-    header-more h (c .before .before .before .before .before .before .before .before .before .before .before .flag-bit .result) o _ (c .before .before .before .before .before .before .before .before .before .before .before .flag-bit .ensures) more
-    (number-put ((h .version * 16 + (c .before .before .before .before .before .before .before .before .before .before .before .flag-bit .result) + h .kind) ∷ h .service .0 ∷ h .info ∷ h .session .0 ∷ bytesBe 4 (h .size)) (h .message .0) 8 o _ _ (rw (length-be 4 (h .size))) (omega (arith, (c .before .before .before .before .before .before .before .before .before .before .before .before .before .before .pre .1)))
-    (front-put (h .version * 16 + (c .before .before .before .before .before .before .before .before .before .before .before .flag-bit .result) + h .kind) (h .service .0) (h .info) (h .session .0) (h .size) o _ l (c .before .before .before .before .before .before .before .before .put-be4 .ensures)) (c .before .before .put-be42 .ensures))
+    let eight = (h .version * 16 + flag .flag-bit .result + h .kind) ∷ h .service .0 ∷ h .info ∷ h .session .0 ∷ bytesBe 4 (h .size) in
+    header-more h (flag .flag-bit .result) (start .args .out .now) _ (flag .flag-bit .ensures) more
+    (number-put eight (h .message .0) 8 (start .args .out .now) _ _ (rw (length-be 4 (h .size))) (omega (arith, start .pre .1)) (front first) (second .put-be42 .ensures))
 
 pub put-header-spec : {M : Type 1} → statement M
 put-header-spec =
@@ -82,12 +86,12 @@ put-header-spec =
     (λ c κs. search needs)  -- flag-bit-requires
     add-out
     add-out-2
-    slice-write-out
-    slice-write-out-2
-    slice-write-out-3
-    slice-write-out-4
+    (λ c. let r = room (c .before .before .before .before) in omega arith)  -- the first byte stored
+    (λ c. let r = room (c .before .before .before .before) in simp length-set (omega arith))
+    (λ c. let r = room (c .before .before .before .before) in simp length-set (omega arith))
+    (λ c. let r = room (c .before .before .before .before) in simp length-set (omega arith))
     (λ c κs. search needs)  -- put-be4-requires
-    same-length
+    (λ c. (c .before .before .before .before .put-be4 .kept .0) ∙ simp length-set)  -- same-length
     returns
     (λ c κs. search needs)  -- put-be4-requires-2
     same-length-2

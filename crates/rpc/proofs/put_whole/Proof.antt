@@ -7,7 +7,9 @@ use Rattle.rpc.proofs.put_whole.Statement.{statement}
 use Rattle.rpc.proofs.put_whole.Tie as tie
 
 word-of-requires : tie.Need-word-of-requires
-word-of-requires c κs = ((c .before .before .before .before .pre .0), (c .before .before .before .before .pre .1 .0))
+word-of-requires c κs =
+    let fits = c .before .before .before .before .pre in
+    (fits .0, fits .1 .0)
 
 -- from the last piece to the first: bulk data, JSON, JSON size, number, word
 returns : tie.Need-returns

@@ -16,7 +16,7 @@ use Rattle.rpc.proofs.read.Tie as tie
 listed : (c : tie.Else1) → knownVersion (c .before .before .before .args .version) ≡ true
 listed c = sym (c .before .known-version .ensures) ∙ not-false (c .before .known-version .result) (c .if1 .left)
 
-headed : (c : tie.Else2) → isBare (c .before .before .before .before .before .args .form) (c .before .before .before .before .before .args .version) ≡ false
+headed : (c : tie.Else2) → (let a = c .before .before .before .before .before .args in isBare (a .form) (a .version) ≡ false)
 headed c = sym (c .before .is-bare .ensures) ∙ (c .if2 .left)
 
 returns : tie.Need-returns
@@ -31,14 +31,15 @@ returns-3 : tie.Need-returns-3
 unfolding readOf
 returns-3 c =
     let bare = c .before in
-    rw (listed (bare .before .before), headed bare, lt-leb 12 (length (bare .before .before .before .before .before .args .payload .now)) (omega arith))
+    let known = bare .before .before in
+    rw (listed known, headed bare, lt-leb 12 (length (known .before .before .before .args .payload .now)) (omega arith))
 
 returns-4 : tie.Need-returns-4
 unfolding readOf
 returns-4 c =
     let bare = c .before .before in
-    let long = le-leb 12 (length (bare .before .before .before .before .before .args .payload .now)) (omega arith) in
-    rw (listed (bare .before .before), headed bare, long) (c .read-whole .ensures)
+    let known = bare .before .before in
+    rw (listed known, headed bare, le-leb 12 (length (known .before .before .before .args .payload .now)) (omega arith)) (c .read-whole .ensures)
 
 pub read-spec : {M : Type 1} → statement M
 read-spec =

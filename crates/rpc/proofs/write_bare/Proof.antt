@@ -24,8 +24,8 @@ returns-2 c =
 returns-3 : tie.Need-returns-3
 returns-3 c =
     let copy = c .before .before in
-    let start = copy .before .before .before .before .before .before .before in
-    let a = start .args in
+    let room = copy .before .before in
+    let a = room .before .before .before .before .before .args in
     bare-put (a .json .now) (a .bulk .now) (a .out .now) _ _ (omega arith) (omega arith) (copy .copy .ensures) refl
 
 pub write-bare-spec : {M : Type 1} → statement M

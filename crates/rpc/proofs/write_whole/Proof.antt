@@ -21,15 +21,16 @@ returns c =
 
 -- the second number is the message's fault, since the first is 0
 judged : (c : tie.After-size-fault)
-    → (let a = c .before .before .before .before .before .before .before .before .args in
-    c .size-fault .result
-    ≡ faultOf (c .before .before .before .before .form-in .result) (c .before .before .before .fields-of .result) (eqb (a .size) (length (a .json .now)))
-    (eqb (length (a .bulk .now)) 0))
+    → (let fields = c .before .before .before in
+    let form = fields .before in
+    let a = form .before .before .before .before .args in
+    c .size-fault .result ≡ faultOf (form .form-in .result) (fields .fields-of .result) (eqb (a .size) (length (a .json .now))) (eqb (length (a .bulk .now)) 0))
 judged c =
-    let a = c .before .before .before .before .before .before .before .before .args in
+    let form = c .before .before .before .before in
+    let a = form .before .before .before .before .args in
     let sized = eqb (a .size) (length (a .json .now)) in
     let ends = eqb (length (a .bulk .now)) 0 in
-    let sizes : c .size-fault .result ≡ sizeFault (c .before .before .before .before .form-in .result) sized ends = c .size-fault .ensures in
+    let sizes : c .size-fault .result ≡ sizeFault (form .form-in .result) sized ends = c .size-fault .ensures in
     fault-late _ _ sized ends _ _ (c .before .before .header-fault .ensures) (c .before .if1 .left) sizes
 
 returns-2 : tie.Need-returns-2

@@ -13,8 +13,9 @@ use Rattle.driver.proofs.commands.write.Tie as tie
 returns : tie.Need-returns
 returns c =
     let write = c .before .before in
-    let a = write .before .before .before .before .before .before .before .args in
-    rw (eq-eqb (a .command .kind) 2 (write .before .before .before .if1 .taken))
+    let second = write .before .before .before in
+    let a = second .before .before .before .before .args in
+    rw (eq-eqb (a .command .kind) 2 (second .if1 .taken))
     (write .write .ensures ∙ ap (λ (h : Header). writeOf h (a .input .now) (a .out .now)) (write .before .before .header-of .ensures))
 
 returns-2 : tie.Need-returns-2

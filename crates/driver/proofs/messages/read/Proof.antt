@@ -29,8 +29,9 @@ returns-3 : tie.Need-returns-3
 returns-3 c =
     let told = c .before .before .before .before in
     let read = told .before .before in
-    let s = read .before .before .before .before .args .input .now in
-    rpc-read (read .before .before .before .before .args .command) s (read .before .before .form-of .ensures) (read .before .byte .ensures) (read .read .ensures)
+    let start = read .before .before .before .before in
+    let s = start .args .input .now in
+    rpc-read (start .args .command) s (read .before .before .form-of .ensures) (read .before .byte .ensures) (read .read .ensures)
     ((c .lay-plain .ensures) ∙ line-held (held (c .before .before .refused .ensures)) [] ∙ ap (rpcBy s) (sym (told .reading3 .given .1)))
 
 pub read-spec : {M : Type 1} → statement M

@@ -26,7 +26,8 @@ short c =
 
 -- the characters stand at the front of the line
 text : (c : tie.After-put)
-    → Appended 0 (c .before .front2 .result .now) (c .before .before .before .before .before .before .before .args .line .now) (c .put .result) (c .put .last .0)
+    → (let text = c .before in
+    Appended 0 (text .front2 .result .now) (text .before .before .before .before .before .before .args .line .now) (c .put .result) (c .put .last .0))
 text c =
     let front = c .before .before .before .before .before in
     let a = front .before .before .args in

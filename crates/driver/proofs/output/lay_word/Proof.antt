@@ -18,8 +18,7 @@ returns c =
 
 -- the space stands before the digits
 space : (c : tie.After-put2)
-    → Appended (c .before .before .before .before .before .before .args .at) (32 ∷ []) (c .before .before .before .before .before .before .args .line .now)
-    (c .put2 .result) (c .put2 .last .0)
+    → (let a = c .before .before .before .before .before .before .args in Appended (a .at) (32 ∷ []) (a .line .now) (c .put2 .result) (c .put2 .last .0))
 space c =
     let start = c .before .before .before .before .before .before in
     let a = start .args in
