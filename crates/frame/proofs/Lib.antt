@@ -1,4 +1,5 @@
 pub mod Laws
+pub mod Message
 pub mod Buffers
 pub mod Answers
 pub mod ThereAndBack

@@ -20,9 +20,10 @@ use Rattle.frame.specs.declared.Reading.the-variants as reading
 use Rattle.frame.specs.Read.{extentOf, readOf}
 use Rattle.frame.specs.Message.{frameNumber}
 use Rattle.frame.proofs.Laws.{version-range}
+use Rattle.frame.proofs.Message.{totals-range}
 use Rattle.sender.specs.declared.Outgoing.{Outgoing}
 use Rattle.sender.specs.Sender.{fitsOne, countOf, chunkOf, frameAt, bytesOf, lastPlace, joined}
-use Rattle.sender.proofs.Counts.{totals-range, joined-whole}
+use Rattle.sender.proofs.Counts.{joined-whole}
 use Rattle.sender.proofs.Laws.{at-single}
 use Rattle.sender.proofs.ReadBack.{totals}
 use Rattle.session.specs.declared.Reassembly.{Reassembly}
@@ -441,5 +442,5 @@ arrives-whole s k o m small opened mtu q f accepted rest order =
     (λ one. subst (λ (cs : List Command). Arrives o m (lastEvent s (call q) cs)) (sym (alone o m small one s k opened q f accepted rest order)) (handed o m small one s k opened q f accepted))
     (λ several.
     let cut : Cut o m = record { accepted = told-by o m small q 0 f .accepted; several = several; message = small } in
-    let some-frames : 1 ≤ countOf o m = totals-range (length m) (countOf o m) (totals o m (cut .accepted) several) .2 in
+    let some-frames : 1 ≤ countOf o m = totals-range (length m) (countOf o m) (totals o m (cut .accepted) several) .some-frames in
     walks o m cut s (call q) 0 rest (begins o m cut s k opened mtu q f accepted) some-frames order)

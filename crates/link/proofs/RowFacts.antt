@@ -15,6 +15,7 @@ use Rattle.frame.specs.declared.ServiceType.{ServiceType}
 use Rattle.frame.specs.declared.MessageId.{MessageId}
 use Rattle.frame.specs.Rules.{listedService}
 use Rattle.frame.specs.Message.{totalsFit}
+use Rattle.frame.proofs.Message.{totals-range}
 use Rattle.session.specs.declared.Reassembly.{Reassembly}
 use Rattle.session.specs.declared.Row.{Row}
 use Rattle.session.specs.Rows.{noReassembly, noRow, messageAt, announced, shortened}
@@ -114,18 +115,14 @@ fits-none b l = absurd (true≢false (sym l))
 
 -- a message just announced
 pub fits-announced : (b : Bool) (i : MessageId) (total count : ℕ) → b ≡ true → totalsFit total count ≡ true → Fits b (announced i total count)
-unfolding totalsFit
 fits-announced b i total count e t l =
-    let p₁ = and-both (leb 1 total) _ t in
-    let p₂ = and-both (leb total 65536) _ (p₁ .1) in
-    let p₃ = and-both (leb 1 count) _ (p₂ .1) in
-    let p₄ = and-both (leb count 256) (leb count total) (p₃ .1) in
+    let range = totals-range total count t in
     record {
       running = e;
       totals = t;
-      some-frames = leb-true 1 count (p₃ .0);
+      some-frames = range .some-frames;
       frames-most = omega arith;
-      missing-least = leb-true count total (p₄ .1);
+      missing-least = range .most-frames;
       missing-most = omega arith;
     }
 

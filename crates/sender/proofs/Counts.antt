@@ -6,18 +6,16 @@ use mathlib.Core.Bool.{Bool, true, false}
 use mathlib.Core.List.{List}
 use native.Mathlib.Omega.{arith}
 use native.Mathlib.Nat.{add-div-right, div-add-mod', mod-lt, mul-le-mul-right, suc-mul}
-use lib.Dec.{eqb, leb}
+use lib.Dec.{leb}
 use lib.ListN.{length, take, drop, length-take, length-drop}
 use lib.Seq.{take-add, take-all}
-use borrow.Author.Tests.{leb-true, leb-false, eqb-false, eq-eqb, ne-eqb}
+use borrow.Author.Tests.{leb-true, leb-false}
 use Rattle.numbers.specs.Bytes.{part}
-use Rattle.numbers.proofs.Choices.{and-both, either}
+use Rattle.numbers.proofs.Choices.{and-both}
 use Rattle.frame.specs.Rules.{largest}
-use Rattle.frame.specs.Message.{frameNumber, totalsFit}
 use Rattle.sender.specs.declared.Outgoing.{Outgoing}
 use Rattle.sender.specs.Sender.{chunkFits, fitsOne, countOf, chunkOf, joined}
 
--- what 10 leaves
 -- where a chunk starts, and a place at most a chunk behind, are numbers of 64 bits
 pub small-start : (x y : ℕ) → x ≤ 256 → y ≤ 131072 → x * y < 18446744073709551616
 small-start x y a b = let l : x * y ≤ 256 * y = mul-le-mul-right y a in omega arith
@@ -25,36 +23,12 @@ small-start x y a b = let l : x * y ≤ 256 * y = mul-le-mul-right y a in omega 
 pub small-end : (x y z : ℕ) → x ≤ 256 → y ≤ 131072 → z ≤ 131072 → x * y + z < 18446744073709551616
 small-end x y z a b c = let l : x * y ≤ 256 * y = mul-le-mul-right y a in omega arith
 
+-- what 10 leaves
 pub chunk-range : (v chunk : ℕ) → chunkFits v chunk ≡ true → (1 ≤ chunk) × (chunk ≤ largest v)
 unfolding chunkFits
 chunk-range v chunk e =
     let p = and-both (leb 1 chunk) (leb chunk (largest v)) e in
     (leb-true 1 chunk (p .0), leb-true chunk (largest v) (p .1))
-
--- what 18 leaves
-pub totals-range : (total count : ℕ) → totalsFit total count ≡ true → (1 ≤ total) × (total ≤ 65536) × (1 ≤ count) × (count ≤ 256)
-unfolding totalsFit
-totals-range total count e =
-    let p = and-both (leb 1 total) _ e in
-    let q = and-both (leb total 65536) _ (p .1) in
-    let r = and-both (leb 1 count) _ (q .1) in
-    let s = and-both (leb count 256) (leb count total) (r .1) in
-    (leb-true 1 total (p .0), leb-true total 65536 (q .0), leb-true 1 count (r .0), leb-true count 256 (s .0))
-
--- the numbers are 1, 2, 3 .. and 0 for the last
-pub number-inner : (k count : ℕ) → k < count → frameNumber k count ≡ k
-unfolding frameNumber
-number-inner k count h = rw (ne-eqb k count (λ z. omega arith))
-
-pub number-last : (count : ℕ) → frameNumber count count ≡ 0
-unfolding frameNumber
-number-last count = rw (eq-eqb count count refl)
-
--- and each is a byte
-pub number-byte : (k count : ℕ) → k ≤ count → count ≤ 256 → frameNumber k count < 256
-unfolding frameNumber
-number-byte k count h l =
-    either (λ (n : ℕ). n < 256) (eqb k count) 0 k (λ e. omega arith) (λ e. let z : k ≡ count → ⊥ = eqb-false k count e in omega arith)
 
 -- more than one chunk is at least one byte
 pub several-length : (o : Outgoing) (m : List ℕ) → fitsOne o m ≡ false → 1 ≤ length m

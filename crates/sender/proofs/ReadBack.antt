@@ -17,11 +17,12 @@ use Rattle.frame.specs.declared.Written.the-variants.{Bytes}
 use Rattle.frame.specs.Rules.{knownVersion, listedService, faultOf}
 use Rattle.frame.specs.Message.{frameNumber, totalsFit}
 use Rattle.frame.specs.Write.{Wrote, wrote, putOf}
+use Rattle.frame.proofs.Message.{totals-range, number-inner, number-last}
 use Rattle.frame.proofs.ThereAndBack.{read-back, not-done, put-told}
 use Rattle.sender.specs.declared.Outgoing.{Outgoing}
 use Rattle.sender.specs.Sender.{chunkFits, fitsOne, countOf, chunkOf, Planned, plan, singlePlan, firstPlan, nextPlan, frameAt, lastPlace, bytesOf, joined, refused, sendOf, Accepted}
 use Rattle.sender.specs.ReadBack.{SentFrame, InPieces, SentMessage, SentReadBack}
-use Rattle.sender.proofs.Counts.{chunk-range, totals-range, several-length, number-inner, number-last, whole-chunk, some-chunk, joined-whole}
+use Rattle.sender.proofs.Counts.{chunk-range, several-length, whole-chunk, some-chunk, joined-whole}
 use Rattle.sender.proofs.Laws.{single-fault, first-fault, next-fault, totals-length, at-single, at-first, at-next}
 
 or-right : (b c : Bool) → b || c ≡ true → b ≡ false → c ≡ true
@@ -79,18 +80,18 @@ module _ (o : Outgoing) (m : List ℕ) (a : Accepted o m) where
     in-pieces : InPieces o m
     in-pieces =
         let c : ℕ = countOf o m in
-        let t = totals-range (length m) c (totals e) in
+        let range = totals-range (length m) c (totals e) in
         let p : frameAt o m 0 .payload ≡ bytesBe 4 (length m) ++ bytesBe 4 c = ap (λ (f : Planned). f .payload) (at-first o 0 m e refl) in
         let info-at : (k : ℕ) → 1 ≤ k → frameAt o m k .header .info ≡ frameNumber k c = λ k h. ap (λ (f : Planned). f .header .info) (at-next o k m e (λ z. omega arith)) in
         record {
           first = ap (λ (f : Planned). f .header .kind) (at-first o 0 m e refl);
-          total = rw (p, take-at (bytesBe 4 (length m)) (bytesBe 4 c) 4 (length-be 4 (length m))) (read-written-be 4 (length m) (omega arith));
-          count = rw (p, drop-at (bytesBe 4 (length m)) (bytesBe 4 c) 4 (length-be 4 (length m))) (read-written-be 4 c (omega arith));
+          total = rw (p, take-at (bytesBe 4 (length m)) (bytesBe 4 c) 4 (length-be 4 (length m))) (read-written-be 4 (length m) (omega (arith, range .most-bytes)));
+          count = rw (p, drop-at (bytesBe 4 (length m)) (bytesBe 4 c) 4 (length-be 4 (length m))) (read-written-be 4 c (omega (arith, range .most-bytes, range .most-frames)));
           next = λ k h g. ap (λ (f : Planned). f .header .kind) (at-next o k m e (λ z. omega arith));
           whole = joined-same c ∙ joined-whole o m some wide;
           chunks = λ k h g. ap length (payload-at k h) ∙ whole-chunk o m some wide k h g;
           numbers = λ k h g. info-at k h ∙ number-inner k c g;
-          last = info-at c (omega arith) ∙ number-last c;
+          last = info-at c (range .some-frames) ∙ number-last c;
         }
 
   -- the data size is the payload's length, and version and message id are the message's

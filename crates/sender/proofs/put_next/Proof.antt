@@ -1,112 +1,103 @@
-use borrow.Author.Tests.{le-leb, lt-leb, eq-eqb, ne-eqb, not-true, not-false}
-use mathlib.Core.Path.{_≡_, sym, _∙_, refl, ap, subst}
+-- `sender::put_next` meets its contract: the chunk at a place lies inside the message, its number is a byte, and the frame is put as planned.
+-- Assumes nothing.
+use mathlib.Core.Path.{_≡_, _∙_, ap}
 use native.Mathlib.Omega.{arith}
-use Prim.Native.Nat.{ℕ, _+_, _-_, _*_, _/_, _≤_, _<_}
-use mathlib.Core.List.{List, _++_}
+use Prim.Native.Nat.{ℕ, _-_, _*_, _≤_, _<_}
+use mathlib.Core.List.{List}
 use lib.ListN.{length}
 use Rattle.numbers.specs.Bytes.{part}
-use Rattle.frame.specs.Rules.{faultOf}
 use Rattle.frame.specs.Message.{frameNumber}
 use Rattle.frame.specs.Write.{putOf}
 use Rattle.frame.proofs.Laws.{largest-range}
-use Rattle.sender.specs.Sender.{headerFor, plan, bytesOf, chunkOf, countOf}
-use Rattle.sender.proofs.Counts.{small-start, small-end, chunk-range, starts, chunk-cut, some-chunk, number-byte}
+use Rattle.frame.proofs.Message.{number-byte}
+use Rattle.sender.specs.Sender.{plan, bytesOf, chunkOf, countOf}
+use Rattle.sender.proofs.Counts.{small-start, small-end, chunk-range, starts, chunk-cut, some-chunk}
 use Rattle.sender.proofs.Laws.{next-fault}
 use borrow.Author.Needs.{needs}
 use Rattle.sender.proofs.put_next.Statement.{statement}
 use Rattle.sender.proofs.put_next.Tie as tie
-use Rattle.sender.proofs.put_next.Reads as reads
-use Rattle.sender.proofs.put_next.Lts as lts
-use Rattle.frame.proofs.frame_number.Reads as frame-number-reads
-use Rattle.sender.proofs.put.Reads as put-reads
 
--- src/lib.rt:90:9
--- src/lib.rt:91:17
--- src/lib.rt:92:18
--- src/lib.rt:92:17
--- src/lib.rt:92:17
+-- what 10 leaves of the chunk
+chunk : (c : tie.Start) → (1 ≤ c .args .outgoing .chunk) × (c .args .outgoing .chunk ≤ 131072)
+chunk c =
+    let o = c .args .outgoing in
+    let w = chunk-range (o .version) (o .chunk) (c .pre .0 .chunk) in
+    (w .0, omega (arith, largest-range (o .version)))
+
+-- it starts inside the message
+inside : (c : tie.Start) → (c .args .place - 1) * c .args .outgoing .chunk < length (c .args .message .now)
+inside c =
+    let a = c .args in
+    starts (a .outgoing) (a .message .now) (omega (arith, c .pre .1)) (chunk c .0) (a .place - 1) (omega (arith, c .pre .1))
+
 mul-start : tie.Need-mul-start
 mul-start c =
-    let a = (c .before .before .before .before .args) in
-    let o = a .outgoing in
-    let w = chunk-range (o .version) (o .chunk) ((c .before .before .before .before .pre .0) .chunk) in
-    let l = largest-range (o .version) in
-    record { fits = small-start _ _ (omega arith) (omega arith) }
+    let start = c .before .before .before .before in
+    record { fits = small-start _ _ (omega (arith, start .pre .1)) (chunk start .1) }
 
--- src/lib.rt:93:21
 add-least : tie.Need-add-least
 add-least c =
-    let a = (c .before .before .before .before .args) in
-    let o = a .outgoing in
-    let w = chunk-range (o .version) (o .chunk) ((c .before .before .before .before .pre .0) .chunk) in
-    let l = largest-range (o .version) in
-    record { fits = small-end _ _ _ (omega arith) (omega arith) (omega arith) }
+    let start = c .before .before .before .before in
+    record { fits = small-end _ _ _ (omega (arith, start .pre .1)) (chunk start .1) (chunk start .1) }
 
--- src/lib.rt:93:9
--- src/lib.rt:94:22
 cast-put : tie.Need-cast-put
-cast-put c = omega (arith, (c .before .before .frame-number .ensures), number-byte (c .before .before .before .before .before .args .place) (c .before .before .before .before .before .args .count) (omega arith) (omega arith))
+cast-put c =
+    let number = c .before .before in
+    let start = number .before .before .before in
+    omega (arith, number .frame-number .ensures, number-byte (start .args .place) (start .args .count) (omega (arith, start .pre .1)) (omega (arith, start .pre .1)))
 
--- src/lib.rt:94:36
 sub-put : tie.Need-sub-put
-sub-put c =
-    let a = (c .before .before .before .before .before .args) in
-    let o = a .outgoing in
-    let m = a .message .now in
-    let w = chunk-range (o .version) (o .chunk) ((c .before .before .before .before .before .pre .0) .chunk) in
-    let s : (a .place - 1) * o .chunk < length m = starts o m (omega arith) (omega arith) (a .place - 1) (omega arith) in
-    omega (arith, (c .least .ensures))
+sub-put c = omega (arith, c .least .ensures, inside (c .before .before .before .before .before))
 
--- src/lib.rt:94:36
 part-put-start : tie.Need-part-put-start
-part-put-start c =
-    let a = (c .before .before .before .before .before .args) in
-    let o = a .outgoing in
-    let m = a .message .now in
-    let w = chunk-range (o .version) (o .chunk) ((c .before .before .before .before .before .pre .0) .chunk) in
-    let s : (a .place - 1) * o .chunk < length m = starts o m (omega arith) (omega arith) (a .place - 1) (omega arith) in
-    omega (arith, (c .least .ensures))
+part-put-start c = omega (arith, c .least .ensures, inside (c .before .before .before .before .before))
 
--- src/lib.rt:94:36
--- src/lib.rt:94:5
+-- the bytes between start and end are the chunk
+cut : (c : tie.After-least)
+    → (let a = c .before .before .before .before .before .args in
+    let at = (a .place - 1) * a .outgoing .chunk in
+    part (a .message .now) at (c .least .result - at) ≡ chunkOf (a .outgoing) (a .message .now) (a .place))
+cut c =
+    let start = c .before .before .before .before .before in
+    let a = start .args in
+    chunk-cut (a .outgoing) (a .message .now) (a .place) (c .least .result) (c .least .ensures) (omega (arith, inside start))
+
 put-requires : tie.Need-put-requires
 put-requires c κs =
-    let a = (c .before .before .before .before .before .before .before .args) in
-    let o = a .outgoing in
-    let m = a .message .now in
-    let w = chunk-range (o .version) (o .chunk) ((c .before .before .before .before .before .before .before .pre .0) .chunk) in
-    let s : (a .place - 1) * o .chunk < length m = starts o m (omega arith) (omega arith) (a .place - 1) (omega arith) in
-    let e = chunk-cut o m (a .place) (c .before .before .least .result) (c .before .before .least .ensures) (omega arith) in
-    let l = some-chunk o m (omega arith) (omega arith) (a .place) (omega arith) (omega arith) in
-    rw e (next-fault o (c .before .before .before .before .before .before .before .pre .0) (c .before .before .before .before .frame-number .result) (length (chunkOf o m (a .place))) (l .0) (l .1))
+    let ends = c .before .before in
+    let number = ends .before .before in
+    let start = number .before .before .before in
+    let a = start .args in
+    let l = some-chunk (a .outgoing) (a .message .now) (omega (arith, start .pre .1)) (chunk start .0) (a .place) (omega (arith, start .pre .1)) (omega (arith, start .pre .1)) in
+    rw (cut ends) (next-fault (a .outgoing) (start .pre .0) (number .frame-number .result) (length (chunkOf (a .outgoing) (a .message .now) (a .place))) (l .0) (l .1))
 
--- src/lib.rt:84:1
--- src/lib.rt:84:1
 returns : tie.Need-returns
 returns c =
-    let a = (c .before .before .before .before .before .before .before .before .before .before .args) in
+    let put = c .before .before in
+    let ends = put .before .before .before in
+    let number = ends .before .before in
+    let start = number .before .before .before in
+    let a = start .args in
     let o = a .outgoing in
     let m = a .message .now in
-    let w = chunk-range (o .version) (o .chunk) ((c .before .before .before .before .before .before .before .before .before .before .pre .0) .chunk) in
-    let s : (a .place - 1) * o .chunk < length m = starts o m (omega arith) (omega arith) (a .place - 1) (omega arith) in
-    let e = chunk-cut o m (a .place) (c .before .before .before .before .before .least .result) (c .before .before .before .before .before .least .ensures) (omega arith) in
-    let p : a .count ≡ countOf o m = (c .before .before .before .before .before .before .before .before .before .before .pre .1 .0 .0) in
-    let n : c .before .before .before .before .before .before .before .frame-number .result ≡ frameNumber (a .place) (countOf o m) = (c .before .before .before .before .before .before .before .frame-number .ensures) ∙ ap (λ (x : ℕ). frameNumber (a .place) x) p in
-    (c .before .before .put .ensures) ∙ ap (λ (l : List ℕ). putOf (bytesOf (plan o 3 (c .before .before .before .before .before .before .before .frame-number .result) l)) (a .out .now)) e
+    let n : number .frame-number .result ≡ frameNumber (a .place) (countOf o m)
+    = number .frame-number .ensures ∙ ap (frameNumber (a .place)) (start .pre .1 .0 .0) in
+    put .put .ensures ∙ ap (λ (l : List ℕ). putOf (bytesOf (plan o 3 (number .frame-number .result) l)) (a .out .now)) (cut ends)
     ∙ ap (λ (x : ℕ). putOf (bytesOf (plan o 3 x (chunkOf o m (a .place)))) (a .out .now)) n
 
 pub put-next-spec : {M : Type 1} → statement M
 put-next-spec =
     tie.close
     (tie.spec
-    (λ c κs. search needs) (λ c. search needs) (λ c. search needs) (λ c. search needs)  -- frame-number-requires, cast-chunk, sub-start, cast-start
+    (λ c κs. search needs)  -- frame::frame_number(place as usize, count as usize)
+    (λ c. search needs) (λ c. search needs) (λ c. search needs)  -- outgoing.chunk as usize, (place - 1) as usize
     mul-start
     add-least
-    (λ c κs. search needs)  -- least-requires
+    (λ c κs. search needs)  -- numbers::least(start + chunk, message.len())
     cast-put
     sub-put
     part-put-start
-    (λ c. search needs)  -- part-put-end
+    (λ c. search needs)  -- message[start..end]
     put-requires
-    (λ c. search needs)  -- same-length
+    (λ c. search needs)  -- out
     returns)
