@@ -75,6 +75,13 @@ static inline uint32_t tilambok_value(uint64_t result) {
 #define TILAMBOK_CONSECUTIVE 3
 
 /*
+ * A message in several frames: a First Frame, whose payload is two numbers of 4 bytes, most significant first, and the
+ * consecutive frames that it announces. The first number is the message's bytes, 1 to 65,536; the second is how many
+ * consecutive frames follow, 1 to as many as there are bytes. The k-th of them has frame info 1 + (k - 1) % 255, so that
+ * the number after 255 is 1 again; the last one has 0. The functions below know frames alone: any info is read and written.
+ */
+
+/*
  * The fields of a frame that was read: TILAMBOK_FIELDS bytes, each of these at its place. The data size and the message id
  * are 4 bytes each, most significant first: see tilambok_field_u32.
  */

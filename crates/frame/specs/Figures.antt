@@ -1,11 +1,12 @@
 -- The frames among document 01's marked cases, as one list, and what it says of each: it is read as that header and payload, and
--- written as those bytes. Proved in proofs/Figures. Assumes nothing.
+-- written as those bytes; and the numbers and totals around document 02's A2. Proved in proofs/Figures. Assumes nothing.
 use Prim.Native.Nat.{ℕ}
-use mathlib.Core.Bool.{false}
-use mathlib.Core.List.{List, [], _∷_}
+use mathlib.Core.Bool.{true, false}
+use mathlib.Core.List.{List, [], _∷_, _++_, map}
 use mathlib.Core.Path.{_≡_}
 use Rattle.frame.specs.declared.Header.{Header}
 use Rattle.frame.specs.declared.Reading.the-variants.{Frame}
+use Rattle.frame.specs.Message.{frameNumber, totalsFit}
 use Rattle.frame.specs.Read.{extentOf, readOf}
 use Rattle.frame.specs.Write.{frameBytes}
 
@@ -52,3 +53,15 @@ pub record Right (f : Figure) : Type 0 where
 abbrev pub AllRight : List Figure → Type 0
 AllRight [] = Unit {0}
 AllRight (f ∷ fs) = Right f × AllRight fs
+
+-- "The number after 255 is 1 again": frames of a message of 65,536, then the 256th of 256 and of 257, and the last one of 400
+abbrev pub NumbersRight : Type 0
+NumbersRight =
+    map (λ (k : ℕ). frameNumber k 65536) (1 ∷ 2 ∷ 254 ∷ 255 ∷ 256 ∷ 257 ∷ 510 ∷ 511 ∷ 65535 ∷ 65536 ∷ []) ++ (frameNumber 256 256 ∷ frameNumber 256 257 ∷ frameNumber 400 400 ∷ [])
+    ≡ (1 ∷ 2 ∷ 254 ∷ 255 ∷ 1 ∷ 2 ∷ 255 ∷ 1 ∷ 255 ∷ 0 ∷ []) ++ (0 ∷ 1 ∷ 0 ∷ [])
+
+-- "18 loses its bound 256 on the count": 400 frames, and as many frames as bytes, up to 65,536
+abbrev pub TotalsRight : Type 0
+TotalsRight =
+    totalsFit 16000 400 ∷ totalsFit 257 257 ∷ totalsFit 65536 65536 ∷ totalsFit 257 258 ∷ totalsFit 65537 1 ∷ totalsFit 1 0 ∷ totalsFit 0 0 ∷ []
+    ≡ true ∷ true ∷ true ∷ false ∷ false ∷ false ∷ false ∷ []

@@ -283,11 +283,17 @@ pub fn write(header: Header, payload: &[u8], out: &mut [u8]) -> Written
     Written::Bytes(end)
 }
 
-// The frame number of the consecutive frame at a place, from 1 to count.
+// The frame number of the consecutive frame at a place, from 1 to count: after 255 comes 1 again.
 pub fn frame_number(place: usize, count: usize) -> usize
     ensures { λ r. ⌜ r ≡ frameNumber place count ⌝ }
 {
-    if place == count { 0 } else { place }
+    if place == count {
+        return 0;
+    }
+    if place == 0 {
+        return 1;
+    }
+    (place - 1) % 255 + 1
 }
 
 // Whether a First Frame may announce so many bytes in so many frames.
@@ -301,9 +307,6 @@ pub fn totals_fit(total: usize, count: usize) -> bool
         return false;
     }
     if count == 0 {
-        return false;
-    }
-    if 256 < count {
         return false;
     }
     count <= total

@@ -23,6 +23,7 @@ pub mod Created
 pub mod Barred
 pub mod CutFrames
 pub mod Arrival
+pub mod Bursts
 pub mod Demand
 pub mod Values
 pub mod Refusals

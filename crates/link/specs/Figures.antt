@@ -1,4 +1,4 @@
--- Document 01's marked cases, all of them, as one list: what the definitions say, beside what the paper says, both as numbers.
+-- Document 01's marked cases, all of them, and those of document 02's A2, as one list: what the definitions say, beside what the papers say, both as numbers.
 -- Proved in proofs/Figures. (frame and payload have further worked cases of their own.)
 -- Assumes nothing.
 use Prim.Native.Nat.{ℕ, _-_, _*_}
@@ -75,9 +75,17 @@ bothEmpty = linkOf sessionA sessionB 0
 abbrev withB156 : Link
 withB156 = linkOf sessionA (admittedRow sessionB 1 (record { 0 = 7 }) (156 * 256) 1) 156
 
--- a First Frame on service 07 that asks for so many whole blocks, in one frame
+-- a First Frame on service 07: total, then count
+abbrev announcing : ℕ → ℕ → ℕ → List ℕ
+announcing session total count = 0x52 ∷ 0x07 ∷ 0 ∷ session ∷ 0 ∷ 0 ∷ 0 ∷ 0x08 ∷ 0 ∷ 0 ∷ 0 ∷ 0x07 ∷ (bytesBe 4 total ++ bytesBe 4 count)
+
+-- one that asks for so many whole blocks, in one frame
 abbrev asks : ℕ → ℕ → List ℕ
-asks session blocks = 0x52 ∷ 0x07 ∷ 0 ∷ session ∷ 0 ∷ 0 ∷ 0 ∷ 0x08 ∷ 0 ∷ 0 ∷ 0 ∷ 0x07 ∷ (bytesBe 4 (blocks * 256) ++ bytesBe 4 1)
+asks session blocks = announcing session (blocks * 256) 1
+
+-- a session with the whole room to itself
+abbrev alone : Link
+alone = linkOf (openedRow (record { 0 = 1 }) 0 256 5 0) freeRow 0
 
 -- an opening without payload
 abbrev start : List ℕ
@@ -125,6 +133,11 @@ figures pool =
     -- ""5.04.1" bad; "5.0.0" good."
     ∷ figure (parts (versionOf (0x35 ∷ 0x2E ∷ 0x30 ∷ 0x34 ∷ 0x2E ∷ 0x31 ∷ []))) []
     ∷ figure (parts (versionOf (0x35 ∷ 0x2E ∷ 0x30 ∷ 0x2E ∷ 0x30 ∷ []))) (5 ∷ 0 ∷ 0 ∷ [])
+    -- document 02, A2: "18 loses its bound 256 on the count": 400 frames, 65,536 of one byte; and what it still refuses
+    ∷ figure (gives alone pool (announcing 1 16000 400)) (0 ∷ [])
+    ∷ figure (gives alone pool (announcing 1 65536 65536)) (0 ∷ [])
+    ∷ figure (gives alone pool (announcing 1 400 401)) (18 ∷ [])
+    ∷ figure (gives alone pool (announcing 1 65537 65537)) (18 ∷ [])
     ∷ []
 
 abbrev pub AllRight : List Figure → Type 0

@@ -8,4 +8,5 @@ pub mod Claim
 pub mod Pages
 pub mod ReadBack
 pub mod Arrival
+pub mod Bursts
 pub mod Figures

@@ -17,11 +17,11 @@ use Rattle.sender.specs.declared.Outgoing.{Outgoing}
 use Rattle.sender.specs.Sender.{chunkFits, fitsOne, countOf, chunkOf, joined}
 
 -- where a chunk starts, and a place at most a chunk behind, are numbers of 64 bits
-pub small-start : (x y : ℕ) → x ≤ 256 → y ≤ 131072 → x * y < 18446744073709551616
-small-start x y a b = let l : x * y ≤ 256 * y = mul-le-mul-right y a in omega arith
+pub small-start : (x y : ℕ) → x ≤ 65536 → y ≤ 131072 → x * y < 18446744073709551616
+small-start x y a b = let l : x * y ≤ 65536 * y = mul-le-mul-right y a in omega arith
 
-pub small-end : (x y z : ℕ) → x ≤ 256 → y ≤ 131072 → z ≤ 131072 → x * y + z < 18446744073709551616
-small-end x y z a b c = let l : x * y ≤ 256 * y = mul-le-mul-right y a in omega arith
+pub small-end : (x y z : ℕ) → x ≤ 65536 → y ≤ 131072 → z ≤ 131072 → x * y + z < 18446744073709551616
+small-end x y z a b c = let l : x * y ≤ 65536 * y = mul-le-mul-right y a in omega arith
 
 -- what 10 leaves
 pub chunk-range : (v chunk : ℕ) → chunkFits v chunk ≡ true → (1 ≤ chunk) × (chunk ≤ largest v)

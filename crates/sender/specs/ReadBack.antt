@@ -1,7 +1,7 @@
 -- What our sender cuts is read back: the statement about the frames 0 to the last of a message that it accepts. The user's second demand: "What you write is
 -- read back the same, save version 1's missing message id." That the link hands the message over whole is link/specs/Arrival. Proved in proofs/ReadBack.
 -- Assumes nothing.
-use Prim.Native.Nat.{ℕ, _^_, _≤_, _<_}
+use Prim.Native.Nat.{ℕ, _+_, _-_, _%_, _^_, _≤_, _<_}
 use mathlib.Core.Bool.{true, false}
 use mathlib.Core.List.{List}
 use mathlib.Core.Path.{_≡_}
@@ -29,9 +29,9 @@ pub record InPieces (o : Outgoing) (m : List ℕ) : Type 0 where
   -- frames 1 to count are consecutive, and their payloads, joined, are the message
   pub next : (k : ℕ) → 1 ≤ k → k ≤ countOf o m → frameAt o m k .header .kind ≡ 3
   pub whole : joined (λ (k : ℕ). frameAt o m k .payload) (countOf o m) ≡ m
-  -- each but the last is a whole chunk, and carries its place; the last carries 0
+  -- each but the last is a whole chunk; A2: "the k-th non-last frame carries 1 plus the remainder of k minus 1 by 255, the last 0"
   pub chunks : (k : ℕ) → 1 ≤ k → k < countOf o m → length (frameAt o m k .payload) ≡ o .chunk
-  pub numbers : (k : ℕ) → 1 ≤ k → k < countOf o m → frameAt o m k .header .info ≡ k
+  pub numbers : (k : ℕ) → 1 ≤ k → k < countOf o m → frameAt o m k .header .info ≡ 1 + (k - 1) % 255
   pub last : frameAt o m (countOf o m) .header .info ≡ 0
 
 -- one frame, or pieces

@@ -77,7 +77,7 @@ fn put_first(outgoing: Outgoing, total: u32, count: u32, out: &mut [u8]) -> Writ
 
 fn put_next(outgoing: Outgoing, place: u32, count: u32, message: &[u8], out: &mut [u8]) -> Written
     requires { ⌜ Ready outgoing ⌝ }
-    requires { ⌜ (count ≡ countOf outgoing (now message)) × (count ≤ 256) ⌝ }
+    requires { ⌜ (count ≡ countOf outgoing (now message)) × (count ≤ 65536) ⌝ }
     requires { ⌜ (1 ≤ place) × (place ≤ count) × (1 ≤ length (now message)) ⌝ }
     ensures { λ r. ⌜ wrote r (now (out .exit)) ≡ putOf (bytesOf (nextPlan outgoing (now (message .entry)) place)) (now (out .entry)) ⌝ }
 {

@@ -3,10 +3,11 @@
 use std::collections::BTreeMap;
 use std::io::{self, BufRead, Write};
 
+use crate::burst;
 use crate::driver::{Driver, LARGEST_LINE};
 use crate::frame::{self, Reading};
 use crate::lines::Lines;
-use crate::link;
+use crate::link::{self, Link, OpenMessage};
 use crate::text;
 
 const COMMANDS: [&str; 8] = [
@@ -32,16 +33,30 @@ pub fn take(input: impl BufRead) -> io::Result<Census> {
     let mut answer = Vec::new();
     while let Some(line) = lines.next_line()? {
         answer.clear();
+        let message = message_before(driver.link(), line);
         if driver.answer(line, &mut answer) {
-            *census.entry(kind(line, &answer)).or_default() += 1;
+            let kind = kind(line, message.as_ref(), &answer);
+            *census.entry(kind).or_default() += 1;
         }
     }
     Ok(census)
 }
 
+/// The message that is open where a `call` line's frame belongs.
+fn message_before(link: Option<&Link>, line: &[u8]) -> Option<OpenMessage> {
+    let call = line.strip_prefix(b"call ")?;
+    let input = bytes(call.rsplit(|&byte| byte == b' ').next()?);
+    let Reading::Frame(frame) = frame::read(&input) else {
+        return None;
+    };
+    let session = link?.session(frame.header.session)?;
+    session.message(frame.header.service).copied()
+}
+
 /// The command and the kind of its answer: the refusal's number, or what a
 /// `call` was answered with; with `rpc` and `rpcwrite` also the form.
-pub fn kind(line: &[u8], answer: &[u8]) -> String {
+/// `message` is the one that was open there before.
+fn kind(line: &[u8], message: Option<&OpenMessage>, answer: &[u8]) -> String {
     let line = String::from_utf8_lossy(line);
     let answer = String::from_utf8_lossy(answer);
     let first = line.split(' ').next().unwrap_or_default();
@@ -49,9 +64,10 @@ pub fn kind(line: &[u8], answer: &[u8]) -> String {
     let command = known.copied().unwrap_or("other");
     let words: Vec<&str> = answer.split(' ').collect();
     let kind = match (command, words.as_slice()) {
-        ("call", ["W", _, reply, ..]) => reply_kind(&bytes(reply)),
-        ("call", ["D", _, _, message, ..]) => format!("D {}", delivery_kind(&line, message)),
+        ("call", ["W", _, reply, ..]) => reply_kind(&bytes(reply.as_bytes())),
+        ("call", ["D", _, _, delivered, ..]) => delivery_kind(&line, message, delivered),
         ("call", ["A", ..]) => format!("A {}", frame_kind(&line)),
+        ("call", ["R", "24", ..]) if at_wrap(message) => "R 24 at a wrap".into(),
         ("rpc", ["P", "-", ..]) => "P without header".into(),
         (_, ["R", number, ..]) => format!("R {number:>2}"),
         (_, [first, ..]) => first.to_string(),
@@ -63,10 +79,14 @@ pub fn kind(line: &[u8], answer: &[u8]) -> String {
     }
 }
 
-fn bytes(word: &str) -> Vec<u8> {
+fn bytes(word: &[u8]) -> Vec<u8> {
     let mut bytes = Vec::new();
-    text::parse_bytes(word.as_bytes(), &mut bytes);
+    text::parse_bytes(word, &mut bytes);
     bytes
+}
+
+fn at_wrap(message: Option<&OpenMessage>) -> bool {
+    message.is_some_and(|message| burst::near_wrap(message.next_frame()))
 }
 
 /// Which reply, told by its own header: the info, the version and the size.
@@ -97,7 +117,7 @@ fn reply_kind(reply: &[u8]) -> String {
 
 /// The frame that a `call` line brought.
 fn frame_kind(line: &str) -> &'static str {
-    let input = bytes(line.rsplit(' ').next().unwrap_or_default());
+    let input = bytes(line.rsplit(' ').next().unwrap_or_default().as_bytes());
     let Reading::Frame(frame) = frame::read(&input) else {
         return "no frame";
     };
@@ -109,8 +129,10 @@ fn frame_kind(line: &str) -> &'static str {
     }
 }
 
-fn delivery_kind(line: &str, message: &str) -> String {
-    let size = match bytes(message).len() {
+/// Which frame delivered how many bytes, and whether it ended a long burst.
+fn delivery_kind(line: &str, message: Option<&OpenMessage>, delivered: &str) -> String {
+    let frame = frame_kind(line);
+    let size = match bytes(delivered.as_bytes()).len() {
         0 => "no bytes",
         1..=256 => "to 256",
         257..=2_048 => "to 2048",
@@ -118,5 +140,10 @@ fn delivery_kind(line: &str, message: &str) -> String {
         65_536 => "65536",
         _ => "above 65536",
     };
-    format!("{} {size}", frame_kind(line))
+    let long = message.is_some_and(|message| message.count > 255);
+    let frames = match frame {
+        "consecutive" if long => ", above 255 frames",
+        _ => "",
+    };
+    format!("D {frame} {size}{frames}")
 }

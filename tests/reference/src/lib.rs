@@ -6,6 +6,7 @@
 //! documents, never from the other program's text.
 //!
 //! - [`frame`], [`sender`], [`payload`], [`refusal`]: the rules of the protocol.
+//! - [`burst`]: what sender and link share of a message in parts.
 //! - [`room`]: the blocks that open messages share.
 //! - [`link`]: sessions, services and messages over that room.
 //! - [`rpc`]: what is inside joined messages.
@@ -16,6 +17,7 @@
 //! - [`generate`]: scripts to compare two programs on.
 
 pub mod bench;
+pub mod burst;
 pub mod census;
 pub mod driver;
 pub mod frame;

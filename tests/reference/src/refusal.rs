@@ -1,8 +1,8 @@
 //! The numbers that refuse a call: those of document 01's table "Answer
 //! numbers", and those that document 02 adds.
 
-/// A refusal. The comments quote the table's "Given exactly when", from 40 on
-/// the text of request A1.
+/// A refusal. The comments quote the table's "Given exactly when", 18 as
+/// request A2 left it, from 40 on the text of request A1.
 #[derive(Clone, Copy, Debug, PartialEq, Eq)]
 #[repr(u8)]
 pub enum Refusal {
@@ -36,8 +36,8 @@ pub enum Refusal {
     /// "control info other than 00, 01, 04, FF; or 00, FF not on service 00
     /// or not settled at 3 or more"
     ControlNotTaken = 17,
-    /// "total 0 or above 65,536, count 0, above 256 or above total;
-    /// sender: likewise, if more than one chunk"
+    /// "total 0 or above 65,536, count 0 or above total; sender: likewise,
+    /// if more than one chunk"
     TotalOrCount = 18,
     /// "message already open"
     AlreadyOpen = 19,

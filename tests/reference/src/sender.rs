@@ -1,13 +1,8 @@
 //! The message sender (document 01, "Sender"): the k-th frame of a message.
 
+use crate::burst;
 use crate::frame::{self, Header, MessageId, ServiceType, SessionId};
 use crate::refusal::Refusal;
-
-/// The largest total of a message in more than one frame.
-pub const LARGEST_TOTAL: usize = 65_536;
-
-/// The most consecutive frames of one message.
-pub const LARGEST_COUNT: usize = 256;
 
 /// A message and how it is to be sent.
 #[derive(Clone, Copy, Debug)]
@@ -40,21 +35,9 @@ pub fn write_frame(outgoing: &Outgoing, k: u32, out: &mut [u8]) -> Result<usize,
         let payload = first_payload(message.len(), count);
         return write_part(outgoing, frame::FIRST, 0, &payload, out);
     }
-    let info = consecutive_info(k, count);
+    let number = burst::frame_number(k as usize, count);
     let part = chunk_of(message, outgoing.chunk as usize, k as usize);
-    write_part(outgoing, frame::CONSECUTIVE, info, part, out)
-}
-
-/// "total 0 or above 65,536, count 0, above 256 or above total" is refused.
-#[inline]
-pub fn check_total(total: usize, count: usize) -> Result<(), Refusal> {
-    let total_allowed = (1..=LARGEST_TOTAL).contains(&total);
-    let count_allowed = (1..=LARGEST_COUNT).contains(&count) && count <= total;
-    if total_allowed && count_allowed {
-        Ok(())
-    } else {
-        Err(Refusal::TotalOrCount)
-    }
+    write_part(outgoing, frame::CONSECUTIVE, number, part, out)
 }
 
 /// Refusals 1, 3 and 10, in this order.
@@ -78,6 +61,8 @@ fn check_settings(outgoing: &Outgoing) -> Result<(), Refusal> {
 ///
 /// Only the second case can be refused ("if more than one chunk"): an empty
 /// message, or one above 65,536 bytes in one large chunk, is a single frame.
+/// Its count is never 0 nor above the length, so that 18 is for a length
+/// above 65,536 alone.
 #[inline]
 fn count_of(outgoing: &Outgoing) -> Result<usize, Refusal> {
     let length = outgoing.message.len();
@@ -86,7 +71,7 @@ fn count_of(outgoing: &Outgoing) -> Result<usize, Refusal> {
         return Ok(0);
     }
     let count = length.div_ceil(chunk);
-    check_total(length, count)?;
+    burst::check_total(length, count)?;
     Ok(count)
 }
 
@@ -98,17 +83,6 @@ fn first_payload(total: usize, count: usize) -> [u8; frame::FIRST_FRAME_SIZE as 
     payload[..4].copy_from_slice(&(total as u32).to_be_bytes());
     payload[4..].copy_from_slice(&(count as u32).to_be_bytes());
     payload
-}
-
-/// "Non-last consecutive frames carry 1, 2, 3 and so on; the last carries 0."
-/// A count of at most 256 keeps every other number in a byte.
-#[inline]
-fn consecutive_info(k: u32, count: usize) -> u8 {
-    if k as usize == count {
-        0
-    } else {
-        k as u8
-    }
 }
 
 /// The k-th chunk, k counted from 1; the last one may be shorter.

@@ -360,25 +360,88 @@ fn a_longer_message_has_its_frames() {
     assert_eq!(frames[..], expected);
 }
 
+/// The number of the k-th frame of a message in so many frames of one byte.
+fn number_of(k: u32, count: usize) -> Result<u8, u8> {
+    sent(4, 1, &vec![9; count], k).map(|frame| frame[2])
+}
+
 #[test]
-fn counts_end_at_256() {
-    let message = [9; 257];
-    let info = |k| sent(4, 1, &message[..256], k).map(|frame| frame[2]);
-    assert_eq!(info(1), Ok(1));
-    assert_eq!(info(255), Ok(255));
-    assert_eq!(info(256), Ok(0));
-    assert_eq!(info(257), Err(26));
-    assert_eq!(sent(4, 1, &message, 0), Err(18));
-    assert_eq!(sent(4, 2, &message, 129).map(|frame| frame.len()), Ok(13));
+fn the_number_after_255_is_1_again() {
+    // Frame 256 of 256 carries 0, frame 256 of 257 carries 1.
+    for (k, count, number) in [
+        (254, 255, 254),
+        (255, 255, 0),
+        (254, 256, 254),
+        (255, 256, 255),
+        (256, 256, 0),
+        (255, 257, 255),
+        (256, 257, 1),
+        (257, 257, 0),
+        (257, 258, 2),
+        (258, 258, 0),
+        (509, 511, 254),
+        (510, 510, 0),
+        (510, 511, 255),
+        (511, 511, 0),
+        (511, 512, 1),
+        (512, 512, 0),
+        (512, 513, 2),
+        (765, 766, 255),
+        (766, 767, 1),
+        (1, 65_536, 1),
+        (65_534, 65_536, 254),
+        (65_535, 65_536, 255),
+        (65_536, 65_536, 0),
+    ] {
+        assert_eq!(number_of(k, count), Ok(number), "{k} of {count}");
+    }
+    for count in [255, 256, 257, 258, 65_536] {
+        assert_eq!(number_of(count as u32 + 1, count), Err(26));
+    }
+}
+
+#[test]
+fn the_customers_400_frames() {
+    let message: Vec<u8> = (0..1_200).map(|i| (i / 3) as u8).collect();
+    let first = bytes("5207000100000008 00000007 000004b0 00000190");
+    assert_eq!(sent(5, 3, &message, 0), Ok(first));
+    for k in 1..=400 {
+        let frame = sent(5, 3, &message, k).unwrap();
+        // 1 to 255, then 1 to 144, then the last.
+        let number = if k == 400 { 0 } else { (k - 1) % 255 + 1 };
+        assert_eq!(frame[..3], [0x53, 7, number as u8], "{k}");
+        assert_eq!(frame[12..], [(k - 1) as u8; 3], "{k}");
+    }
+    assert_eq!(sent(5, 3, &message, 401), Err(26));
+    // The last one may be shorter.
+    assert_eq!(sent(4, 2, &[9; 257], 129).map(|frame| frame.len()), Ok(13));
 }
 
 #[test]
 fn totals_end_at_65536() {
     let message = vec![9; 65_537];
-    let figure = bytes("52 07 00 01 00 00 00 08 00 00 00 07 00 01 00 00 00 00 01 00");
-    assert_eq!(sent(5, 256, &message[..65_536], 0), Ok(figure));
-    assert_eq!(sent(5, 255, &message[..65_536], 0), Err(18));
+    // From a frame for each byte to two frames.
+    for (chunk, count) in [
+        (1, "00 01 00 00"),
+        (2, "00 00 80 00"),
+        (255, "00 00 01 02"),
+        (256, "00 00 01 00"),
+        (257, "00 00 01 00"),
+        (65_535, "00 00 00 02"),
+    ] {
+        let head = "52 07 00 01 00 00 00 08 00 00 00 07 00 01 00 00";
+        let figure = bytes(&format!("{head} {count}"));
+        assert_eq!(sent(5, chunk, &message[..65_536], 0), Ok(figure), "{chunk}");
+        // A byte more is 18, whatever the chunk and k.
+        for k in [0, 1, 256, 65_536, 65_537, u32::MAX] {
+            assert_eq!(sent(5, chunk, &message, k), Err(18), "{chunk} {k}");
+        }
+    }
     assert_eq!(sent(5, 65_536, &message, 0), Err(18));
+    assert_eq!(sent(1, 1_488, &message, 0), Err(18));
+    assert!(sent(1, 1_488, &message[..65_536], 45).is_ok());
+    // In one chunk there is no limit but the chunk's.
+    assert!(sent(5, 65_536, &message[..65_536], 0).is_ok());
     assert!(sent(5, 65_537, &message, 0).is_ok());
 }
 

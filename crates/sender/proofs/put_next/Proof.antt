@@ -33,18 +33,18 @@ inside c =
 mul-start : tie.Need-mul-start
 mul-start c =
     let start = c .before .before .before .before in
-    record { fits = small-start _ _ (omega (arith, start .pre .1)) (chunk start .1) }
+    record { fits = small-start _ _ (omega (arith, start .pre .1)) (omega (arith, chunk start)) }
 
 add-least : tie.Need-add-least
 add-least c =
     let start = c .before .before .before .before in
-    record { fits = small-end _ _ _ (omega (arith, start .pre .1)) (chunk start .1) (chunk start .1) }
+    record { fits = small-end _ _ _ (omega (arith, start .pre .1)) (omega (arith, chunk start)) (omega (arith, chunk start)) }
 
 cast-put : tie.Need-cast-put
 cast-put c =
     let number = c .before .before in
     let start = number .before .before .before in
-    omega (arith, number .frame-number .ensures, number-byte (start .args .place) (start .args .count) (omega (arith, start .pre .1)) (omega (arith, start .pre .1)))
+    omega (arith, number .frame-number .ensures, number-byte (start .args .place) (start .args .count))
 
 sub-put : tie.Need-sub-put
 sub-put c = omega (arith, c .least .ensures, inside (c .before .before .before .before .before))

@@ -89,8 +89,8 @@ put-next-requires c κs =
     let fitted = c .before .before .before in
     let counted = fitted .before .before in
     let start = counted .before .before .before in
-    let most = range fitted .few-frames in
-    (start .pre .0, ((counted .frame-count .ensures, omega arith), (omega arith, omega arith, omega (arith, range fitted .some-bytes))))
+    let r = range fitted in
+    (start .pre .0, ((counted .frame-count .ensures, omega (arith, r .most-bytes, r .most-frames)), (omega arith, omega arith, r .some-bytes)))
 
 returns-4 : tie.Need-returns-4
 returns-4 c =

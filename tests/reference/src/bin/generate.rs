@@ -1,4 +1,5 @@
-//! Prints a script: `generate [--frames | --payloads | --rpc | --calls | --bench] SEED LINES`.
+//! Prints a script:
+//! `generate [--frames | --payloads | --rpc | --calls | --bursts | --bench] SEED LINES`.
 
 use std::io::{self, BufWriter};
 use std::process::ExitCode;
@@ -6,7 +7,7 @@ use std::process::ExitCode;
 use reference::generate::{write_script, Form};
 
 const USAGE: &str =
-    "usage: generate [--frames | --payloads | --rpc | --calls | --bench] SEED LINES";
+    "usage: generate [--frames | --payloads | --rpc | --calls | --bursts | --bench] SEED LINES";
 
 fn main() -> ExitCode {
     let Some((form, seed, lines)) = arguments() else {
@@ -32,6 +33,7 @@ fn arguments() -> Option<(Form, u64, u64)> {
         [option, numbers @ ..] if option == "--payloads" => (Form::Payloads, numbers),
         [option, numbers @ ..] if option == "--rpc" => (Form::Rpc, numbers),
         [option, numbers @ ..] if option == "--calls" => (Form::Calls, numbers),
+        [option, numbers @ ..] if option == "--bursts" => (Form::Bursts, numbers),
         [option, numbers @ ..] if option == "--bench" => (Form::Bench, numbers),
         numbers => (Form::All, numbers),
     };

@@ -127,7 +127,7 @@ impl Calls {
     }
 
     fn settings(&mut self, random: &mut Random) -> [u64; 4] {
-        if random.once_in(8) {
+        if random.once_in(6) {
             return random.pick(&BAD_SETTINGS);
         }
         self.links += 1;

@@ -5,6 +5,7 @@
 //! a `line` function like those here and its weight in [`command_line`].
 
 mod bench_lines;
+mod burst_lines;
 mod call_lines;
 mod draft;
 mod elements;
@@ -23,6 +24,7 @@ use std::io::{self, Write};
 
 use crate::text;
 use bench_lines::BenchLines;
+use burst_lines::Bursts;
 use call_lines::Calls;
 use odd_lines::Source;
 use random::Random;
@@ -40,6 +42,8 @@ pub enum Form {
     Rpc,
     /// Readable `new` and `call` lines only.
     Calls,
+    /// Likewise, of long messages sent to their end.
+    Bursts,
     /// Lines for the bench program.
     Bench,
 }
@@ -58,9 +62,10 @@ pub fn write_script(form: Form, seed: u64, lines: u64, mut out: impl Write) -> i
 
 /// What lives from one line to the next.
 struct Script {
-    /// The lines of a family of payloads that are still to come.
+    /// The lines of a family that are still to come, the next one last.
     waiting: Vec<Vec<u8>>,
     calls: Calls,
+    bursts: Bursts,
     bench: BenchLines,
 }
 
@@ -69,6 +74,7 @@ impl Script {
         Script {
             waiting: Vec::new(),
             calls: Calls::new(random),
+            bursts: Bursts::new(),
             bench: BenchLines::new(random),
         }
     }
@@ -86,11 +92,22 @@ impl Script {
                 line
             }
             Form::Frames => frame_line(random),
-            Form::Payloads => payload_line(random, &mut self.waiting),
+            Form::Payloads => next_of(&mut self.waiting, || payload_lines::family(random)),
+            Form::Bursts => next_of(&mut self.waiting, || self.bursts.link_lines(random)),
             Form::Rpc => rpc_line(random),
             Form::Bench => self.bench.line(random),
         }
     }
+}
+
+/// The next line of a family, all of whose lines are wanted; those still to
+/// come are `waiting`.
+fn next_of(waiting: &mut Vec<Vec<u8>>, family: impl FnOnce() -> Vec<Vec<u8>>) -> Vec<u8> {
+    if waiting.is_empty() {
+        *waiting = family();
+        waiting.reverse();
+    }
+    waiting.pop().unwrap_or_default()
 }
 
 fn any_line(random: &mut Random, calls: &mut Calls) -> Vec<u8> {
@@ -129,16 +146,6 @@ fn frame_line(random: &mut Random) -> Vec<u8> {
     } else {
         write_lines::line(random)
     }
-}
-
-/// The next line of a family, all of whose lines are wanted; those still to
-/// come are `waiting`.
-fn payload_line(random: &mut Random, waiting: &mut Vec<Vec<u8>>) -> Vec<u8> {
-    if waiting.is_empty() {
-        *waiting = payload_lines::family(random);
-        waiting.reverse();
-    }
-    waiting.pop().unwrap_or_default()
 }
 
 /// A line put together word by word.

@@ -31,14 +31,14 @@ pub fn line(random: &mut Random) -> Vec<u8> {
 /// A case whose version, service and chunk are good.
 fn good_case(random: &mut Random) -> Case {
     let version = random.between(1, 5) as u8;
-    let (chunk, length) = match random.weighted(&[250, 400, 180, 150, 10]) {
+    let (chunk, length) = match random.weighted(&[250, 400, 180, 150, 12]) {
         0 => one_chunk(random, version),
         1 => few_chunks(random),
         2 => many_chunks(random),
         3 => limit_chunk(random, version),
         _ => long_message(random, version),
     };
-    let k = frame_number(random, chunk, length);
+    let k = frame_asked(random, chunk, length);
     Case {
         version,
         service: random.pick(&values::SERVICES),
@@ -68,29 +68,20 @@ fn one_chunk(random: &mut Random, version: u8) -> (usize, usize) {
 fn few_chunks(random: &mut Random) -> (usize, usize) {
     let chunk = random.between(1, 30);
     let count = random.between(2, 12);
-    (chunk, length_of(random, chunk, count))
+    (chunk, values::message_length(random, chunk, count))
 }
 
-/// Around the largest count of 256.
+/// Around the wraps of the frames' numbers; longer messages in smaller chunks.
 fn many_chunks(random: &mut Random) -> (usize, usize) {
-    let chunk = random.pick(&[1, 1, 1, 2, 3, 4]);
     let count = match random.below(6) {
         0 => random.between(200, 300),
-        _ => random.pick(&[255, 256, 257]),
+        _ => values::count_at_wrap(random),
     };
-    (chunk, length_of(random, chunk, count))
-}
-
-/// The length of a message in `count` chunks: the longest, the shortest or
-/// one between.
-fn length_of(random: &mut Random, chunk: usize, count: usize) -> usize {
-    let shortest = chunk * (count - 1) + 1;
-    let longest = chunk * count;
-    match random.below(3) {
-        0 => shortest,
-        1 => longest,
-        _ => random.between(shortest, longest),
-    }
+    let chunk = match count {
+        ..=300 => random.pick(&[1, 1, 1, 2, 3, 4]),
+        _ => random.pick(&[1, 1, 2]),
+    };
+    (chunk, values::message_length(random, chunk, count))
 }
 
 /// A chunk at its limits; its message is around it only if that is short.
@@ -111,37 +102,51 @@ fn limit_chunk(random: &mut Random, version: u8) -> (usize, usize) {
     (chunk, length)
 }
 
-/// Around the largest total of 65,536, in one chunk and in more.
+/// Around the largest total of 65,536: in one chunk, in more, and in one for
+/// each byte or two. The sender's 18 needs such a message, so that most have
+/// just the length for it.
 fn long_message(random: &mut Random, version: u8) -> (usize, usize) {
-    let length = match random.weighted(&[45, 10, 15, 30]) {
-        0 => random.pick(&[65_535, 65_536, 65_537]),
+    let length = match random.weighted(&[70, 5, 7, 18]) {
+        0 => random.pick(&[65_535, 65_536, 65_536, 65_537, 65_537, 65_537]),
         1 => random.between(65_537, 131_073),
         2 => random.pick(&[131_071, 131_072, 131_073]),
         _ => values::long_length(random, 65_536),
     };
     let largest = values::largest(version);
-    let chunk = match random.below(3) {
+    let chunk = match random.weighted(&[2, 3, 2, 5]) {
         0 => length.min(largest),
         1 => random.pick(&[255, 256, 257, 1_488, 8_192, 32_768, 65_535, 65_536]),
-        _ => random.pick(&[65_536, 65_537, 131_071, 131_072]),
+        2 => random.pick(&[65_536, 65_537, 131_071, 131_072]),
+        _ => random.pick(&[1, 1, 2]),
     };
     (chunk.min(largest), length)
 }
 
-/// A frame's number around the first, the last, and the limits.
-fn frame_number(random: &mut Random, chunk: usize, length: usize) -> u32 {
+/// A k around the first frame, the last, the wraps, and the limits.
+fn frame_asked(random: &mut Random, chunk: usize, length: usize) -> u32 {
     let last = last_frame(chunk, length);
-    let number = match random.weighted(&[25, 12, 10, 20, 10, 4, 4, 15]) {
+    let at_wraps = if last < 254 { 2 } else { 60 };
+    let number = match random.weighted(&[25, 12, 10, 20, 10, 4, 2, 15, at_wraps]) {
         0 => 0,
         1 => 1,
         2 => last.saturating_sub(1),
         3 => last,
         4 => last + 1,
         5 => u32::MAX as usize,
-        6 => random.pick(&[2, 255, 256, 257, 258, 65_536, 0x8000_0000]),
-        _ => random.between(0, last),
+        6 => random.pick(&[2, 258, 65_535, 65_536, 0x8000_0000]),
+        7 => random.between(0, last),
+        _ => near_wrap(random, last),
     };
     number as u32
+}
+
+/// A frame next to a wrap of the numbers, mostly the first, the second or the
+/// last wrap that the message has: 254 to 257, 509 to 512 and so on.
+fn near_wrap(random: &mut Random, last: usize) -> usize {
+    let wraps = (last / 255).max(1);
+    let any = random.between(1, wraps);
+    let wrap = random.pick(&[1, wraps.min(2), wraps, any]);
+    255 * wrap - 1 + random.below(4)
 }
 
 /// The last frame's number: 0 if the message fits one chunk, else the count.
@@ -190,4 +195,66 @@ fn words(random: &mut Random, case: &Case, out_length: usize) -> Vec<u8> {
     line.number(out_length as u64);
     line.bytes(&random.bytes(case.length));
     line.end()
+}
+
+#[cfg(test)]
+mod tests {
+    use super::*;
+    use crate::burst;
+    use crate::driver::Driver;
+    use std::collections::BTreeMap;
+
+    /// How often a thing was seen.
+    type Times<T> = BTreeMap<T, usize>;
+
+    /// The number at this place of a line's words.
+    fn number(line: &[u8], place: usize) -> usize {
+        let word = line.split(|&byte| byte == b' ').nth(place).unwrap();
+        String::from_utf8_lossy(word).parse().unwrap()
+    }
+
+    /// The frames asked for and written, as count and k, and all refusals.
+    fn answers_to(lines: usize) -> (Times<(usize, usize)>, Times<String>) {
+        let mut random = Random::of(1);
+        let mut driver = Driver::default();
+        let (mut written, mut refused) = (Times::new(), Times::new());
+        for _ in 0..lines {
+            let line = line(&mut random);
+            let mut answer = Vec::new();
+            driver.answer(&line, &mut answer);
+            if answer.starts_with(b"B") {
+                let message = line.rsplit(|&byte| byte == b' ').next().unwrap();
+                let count = last_frame(number(&line, 5), message.len() / 2);
+                *written.entry((count, number(&line, 6))).or_default() += 1;
+            } else {
+                let answer = String::from_utf8_lossy(&answer).into_owned();
+                *refused.entry(answer).or_default() += 1;
+            }
+        }
+        (written, refused)
+    }
+
+    #[test]
+    fn every_wrap_and_every_refusal_is_tried() {
+        let (written, refused) = answers_to(60_000);
+        for refusal in ["R 1", "R 3", "R 10", "R 11", "R 18", "R 26"] {
+            assert!(refused[refusal] > 150, "{refusal}: {}", refused[refusal]);
+        }
+        for count in [255, 256, 257, 510, 511, 512, 765, 766] {
+            let near = (0..=count).filter(|&k| k + 2 > count || burst::near_wrap(k));
+            for k in near {
+                assert!(written.contains_key(&(count, k)), "{k} of {count}");
+            }
+        }
+        for (count, k) in [
+            (65_536, 65_536),
+            (65_536, 65_535),
+            (65_535, 65_535),
+            (65_536, 0),
+        ] {
+            assert!(written.contains_key(&(count, k)), "{k} of {count}");
+        }
+        let of_many = written.keys().filter(|(count, _)| *count >= 32_768);
+        assert!(of_many.filter(|(_, k)| burst::near_wrap(*k)).count() > 10);
+    }
 }

@@ -1,6 +1,7 @@
-//! The values worth trying: each limit of document 01 and its neighbours.
+//! The values worth trying: each limit of documents 01 and 02 and its neighbours.
 
 use super::random::Random;
+use crate::burst;
 
 /// The largest data size in versions 1 and 2, and in 3 to 5.
 const OLD_LARGEST: usize = 1_488;
@@ -159,4 +160,73 @@ pub fn out_length(random: &mut Random, due: usize) -> usize {
         _ => random.below(LARGEST_OUT + 1),
     };
     length.min(LARGEST_OUT)
+}
+
+/// The length of a message in `count` chunks: the longest, the shortest or
+/// one between.
+pub fn message_length(random: &mut Random, chunk: usize, count: usize) -> usize {
+    let shortest = chunk * (count - 1) + 1;
+    let longest = chunk * count;
+    match random.below(3) {
+        0 => shortest,
+        1 => longest,
+        _ => random.between(shortest, longest),
+    }
+}
+
+/// A count of frames at one of the first three wraps of their numbers: 255,
+/// 256, 257, 510 and so on, those of the first wrap more often.
+pub fn count_at_wrap(random: &mut Random) -> usize {
+    255 * random.pick(&[1, 1, 1, 1, 2, 2, 3]) + random.below(3)
+}
+
+/// Whether it is worth trying a wrong number in the k-th of `count` frames:
+/// next to a wrap, and in the last frame behind one.
+pub fn telling_number(k: usize, count: usize) -> bool {
+    burst::near_wrap(k) || (k == count && count > 255)
+}
+
+/// A number that the k-th of `count` frames must not carry: 0 too early, the
+/// last one's number instead of 0, one skipped, one again, 255 again behind a
+/// wrap, the low byte of k.
+pub fn wrong_number(random: &mut Random, k: usize, count: usize) -> u8 {
+    let right = burst::frame_number(k, count);
+    let were_it_not_last = burst::frame_number(k, count + 1);
+    let next = right.wrapping_add(1);
+    let before = right.wrapping_sub(1);
+    let mut numbers = vec![0, 1, 255, were_it_not_last, next, before, k as u8];
+    numbers.retain(|&number| number != right);
+    random.pick(&numbers)
+}
+
+#[cfg(test)]
+mod tests {
+    use super::*;
+    use std::collections::BTreeSet;
+
+    #[test]
+    fn wrong_numbers_are_those_that_a_wrap_invites() {
+        let mut random = Random::of(1);
+        for (k, count, wrong) in [
+            // 0 and 2 after 255, 255 again.
+            (256, 257, &[0, 2, 255][..]),
+            (511, 766, &[0, 2, 255]),
+            (255, 256, &[0, 1, 254]),
+            // As if the numbers began anew at 0, or only behind 256.
+            (257, 258, &[0, 1, 3, 255]),
+            // The last frame carries its number instead of 0.
+            (255, 255, &[1, 255]),
+            (256, 256, &[1, 255]),
+            (257, 257, &[1, 2, 255]),
+            (400, 400, &[1, 144, 145, 255]),
+            (2, 3, &[0, 1, 3, 255]),
+        ] {
+            assert!(k < 4 || telling_number(k, count), "{k} of {count}");
+            let tried = (0..1_000).map(|_| wrong_number(&mut random, k, count));
+            let tried: BTreeSet<u8> = tried.collect();
+            assert!(tried.iter().eq(wrong), "{k} of {count}: {tried:?}");
+        }
+        assert!(!telling_number(253, 400) && !telling_number(258, 400));
+        assert!(!telling_number(200, 200) && telling_number(508, 508));
+    }
 }

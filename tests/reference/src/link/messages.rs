@@ -1,10 +1,10 @@
 //! Single frames and messages in parts (document 01, "Messages").
 
 use super::{Effect, Link, OpenMessage, Place, Session, LARGEST_CAP};
+use crate::burst;
 use crate::frame::{Frame, Header, SessionId};
 use crate::refusal::Refusal;
 use crate::room;
-use crate::sender;
 
 impl Link {
     /// "A single frame delivers its payload likewise."
@@ -21,7 +21,7 @@ impl Link {
     pub(super) fn first(&mut self, frame: &Frame) -> Result<Effect, Refusal> {
         let header = &frame.header;
         let (total, count) = total_and_count(frame.payload);
-        sender::check_total(total, count)?;
+        burst::check_total(total, count)?;
         let session = &self.sessions[&header.session];
         if session.message(header.service).is_some() {
             return Err(Refusal::AlreadyOpen);
@@ -108,17 +108,10 @@ impl Link {
 
 /// The message after one more frame, or 24 or 25.
 fn after_frame(message: &OpenMessage, number: u8, size: usize) -> Result<OpenMessage, Refusal> {
-    let to_come = message.to_come - 1;
-    // "Non-last consecutive frames carry 1, 2, 3 and so on; the last carries
-    // 0." With at most 256 frames the number of a non-last one is a byte.
-    let due = if to_come == 0 {
-        0
-    } else {
-        message.count - to_come
-    };
-    if usize::from(number) != due {
+    if number != message.next_number() {
         return Err(Refusal::FrameNumber);
     }
+    let to_come = message.to_come - 1;
     // "After each frame, bytes still missing must be at least frames still
     // to come, and 0 when none is."
     let missing = message

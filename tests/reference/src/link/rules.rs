@@ -4,9 +4,9 @@
 use std::collections::BTreeSet;
 
 use super::{Link, OpenMessage, Place, Session, LARGEST_CAP, MOST_SESSIONS, PAYLOAD_VERSION, RPC};
+use crate::burst;
 use crate::frame::{ServiceType, SessionId};
 use crate::room::{self, BlockNumber};
-use crate::sender;
 
 /// Whether all state rules hold.
 pub fn hold(link: &Link) -> bool {
@@ -55,7 +55,7 @@ fn version_good(link: &Link, row: &Session) -> bool {
 fn message_good(row: &Session, service: ServiceType, message: &OpenMessage) -> bool {
     let version = row.version().unwrap_or(0);
     row.runs(service, version)
-        && sender::check_total(message.total, message.count).is_ok()
+        && burst::check_total(message.total, message.count).is_ok()
         && (1..=message.count).contains(&message.to_come)
         && (message.to_come..=message.total).contains(&message.missing)
 }
@@ -69,4 +69,83 @@ fn blocks_disjoint(link: &Link) -> bool {
             link.blocks(place).iter().all(|&block| seen.insert(block))
         })
     })
+}
+
+#[cfg(test)]
+mod tests {
+    use super::*;
+    use crate::frame::MessageId;
+    use crate::link::version::ProtocolVersion;
+    use crate::link::{Offer, Settings};
+
+    /// A link with this message in its one session, which has the whole room.
+    fn link_with(message: OpenMessage) -> Link {
+        let version = ProtocolVersion {
+            major: 5,
+            minor: 4,
+            patch: 1,
+        };
+        let settings = Settings {
+            version,
+            mtu: 1_500,
+        };
+        let offer = Offer {
+            guarantee: 0,
+            cap: LARGEST_CAP,
+            hash: 1,
+        };
+        let place = Place {
+            session: SessionId(1),
+            service: RPC,
+        };
+        let mut row = Session::opened(&offer, Some(PAYLOAD_VERSION));
+        row.put_message(place.service, message);
+        let mut link = Link::new(settings, vec![0; room::POOL_SIZE]).unwrap();
+        link.sessions.insert(place.session, row);
+        link.room.claim(place, room::needed(message.total));
+        link
+    }
+
+    /// Whether the rules hold with such a message when none of its frames has
+    /// come, and when all but the last have.
+    fn holds(total: usize, count: usize) -> [bool; 2] {
+        [(count, total), (1, 1)].map(|(to_come, missing)| {
+            let message = OpenMessage {
+                id: MessageId(7),
+                total,
+                count,
+                to_come,
+                missing,
+            };
+            hold(&link_with(message))
+        })
+    }
+
+    #[test]
+    fn an_open_message_has_a_count_as_18_allows() {
+        for (total, count) in [
+            (1, 1),
+            (256, 256),
+            (257, 257),
+            (400, 400),
+            (65_536, 1),
+            (65_536, 257),
+            (65_536, 65_535),
+            (65_536, 65_536),
+        ] {
+            assert_eq!(holds(total, count), [true, true], "{total} {count}");
+        }
+        for (total, count) in [
+            (0, 0),
+            (1, 0),
+            (255, 256),
+            (256, 257),
+            (65_535, 65_536),
+            (65_536, 65_537),
+            (65_537, 65_536),
+            (65_537, 65_537),
+        ] {
+            assert_eq!(holds(total, count), [false, false], "{total} {count}");
+        }
+    }
 }

@@ -3,6 +3,7 @@
 use std::collections::BTreeMap;
 
 use super::{Offer, AUDIO, BULK, CONTROL_SERVICE, RPC, VIDEO};
+use crate::burst;
 use crate::frame::{MessageId, ServiceType};
 
 /// The counter's first number.
@@ -18,6 +19,18 @@ pub struct OpenMessage {
     pub to_come: usize,
     /// The bytes still missing.
     pub missing: usize,
+}
+
+impl OpenMessage {
+    /// Which of its consecutive frames is due, the first one being 1.
+    pub fn next_frame(&self) -> usize {
+        self.count - self.to_come + 1
+    }
+
+    /// The number that this frame must carry.
+    pub fn next_number(&self) -> u8 {
+        burst::frame_number(self.next_frame(), self.count)
+    }
 }
 
 /// "A session keeps its opening's G and C, a service its own start's hash."

@@ -16,7 +16,7 @@ pub fn damage(random: &mut Random, bytes: &mut Vec<u8>) {
         return;
     }
     let place = place(random, bytes.len());
-    match random.weighted(&[30, 15, 25, 5, 5, 20]) {
+    match random.weighted(&[30, 15, 40, 5, 5, 20]) {
         0 => bytes[place] ^= 1 << random.below(8),
         1 => bytes[place] = random.pick(&TELLING_BYTES),
         2 => cut(random, bytes),

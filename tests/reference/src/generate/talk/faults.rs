@@ -9,26 +9,41 @@ use crate::link::{self, Session, AUDIO, BULK, CONTROL_SERVICE, RPC, VIDEO};
 /// Infos that no session takes.
 const OTHER_INFOS: [u8; 9] = [0x02, 0x03, 0x05, 0x06, 0x07, 0x08, 0x09, 0xfd, 0xfe];
 
-/// Totals and counts that 18 refuses.
-const BAD_TOTALS: [(u32, u32); 12] = [
+/// Totals and counts that 18 refuses; some of the numbers are good ones in
+/// their low 16 bits.
+const BAD_TOTALS: [(u32, u32); 22] = [
     (0, 0),
     (0, 1),
+    (0, 65_536),
     (1, 0),
-    (65_537, 2),
-    (65_537, 256),
-    (65_536, 257),
-    (300, 257),
+    (65_536, 0),
     (5, 6),
     (255, 256),
-    (0x0001_0100, 1),
-    (u32::MAX, 3),
+    (256, 257),
+    (257, 258),
+    (510, 511),
+    (600, 65_538),
     (600, u32::MAX),
+    (65_535, 65_536),
+    (65_536, 65_537),
+    (65_537, 2),
+    (65_537, 256),
+    (65_537, 65_536),
+    (65_537, 65_537),
+    (0x0001_0100, 1),
+    (131_072, 65_536),
+    (u32::MAX, 3),
+    (u32::MAX, u32::MAX),
 ];
+
+/// Once in so many times a frame at a wrap carries a wrong number: the other
+/// faults hardly ever come there.
+const WRAP_FAULTS: usize = 12;
 
 /// A frame with one fault. Not every fault can be had in every state; then
 /// the frame is a sensible one.
 pub fn plan(scene: &mut Scene) -> Plan {
-    let weights = [6, 12, 7, 44, 8, 6, 8, 6, 9, 9, 9, 13, 32, 3, 7, 14];
+    let weights = [6, 12, 7, 44, 10, 6, 8, 6, 9, 9, 8, 13, 40, 3, 7, 14];
     let plan = match scene.random.weighted(&weights) {
         0 => Some(other_session(scene)),
         1 => Some(encrypted(scene)),
@@ -237,15 +252,24 @@ fn other_message(scene: &mut Scene) -> Option<Plan> {
     Some(plan)
 }
 
-/// 24: the last frame's 0 too early or not at all, one skipped, one again.
+/// 24
 fn wrong_number(scene: &mut Scene) -> Option<Plan> {
-    let (_, mut plan) = short_next(scene)?;
-    let right = plan.header.info;
-    let wrong = scene
-        .random
-        .pick(&[0, 1, right.wrapping_add(1), right.wrapping_sub(1), 255]);
-    plan.header.info = wrong;
+    let (open, mut plan) = short_next(scene)?;
+    let message = open.message;
+    plan.header.info = values::wrong_number(scene.random, message.next_frame(), message.count);
     Some(plan)
+}
+
+/// 24 at a wrap, now and then, instead of the right next frame.
+pub fn misnumbered(scene: &mut Scene, mut plan: Plan) -> Plan {
+    let Some(message) = plan.message(scene.link) else {
+        return plan;
+    };
+    let k = message.next_frame();
+    if values::telling_number(k, message.count) && scene.random.once_in(WRAP_FAULTS) {
+        plan.header.info = values::wrong_number(scene.random, k, message.count);
+    }
+    plan
 }
 
 /// 25: more than is missing, too little left, or something left at the end.
@@ -281,4 +305,18 @@ fn spoilt(scene: &mut Scene) -> Plan {
         _ => headers::spoil(scene.random, header),
     }
     plan
+}
+
+#[cfg(test)]
+mod tests {
+    use super::*;
+    use crate::burst;
+
+    #[test]
+    fn bad_totals_are_bad() {
+        for (total, count) in BAD_TOTALS {
+            let refused = burst::check_total(total as usize, count as usize).is_err();
+            assert!(refused, "{total} {count}");
+        }
+    }
 }

@@ -3,12 +3,16 @@
 use super::mood::Messages;
 use super::{Plan, Scene};
 use crate::frame::{self, Header, ServiceType, SessionId};
+use crate::generate::values;
 use crate::link::{OpenMessage, Session};
 
 const BLOCK: usize = 256;
 
 /// Frames above this length are rare.
 const USUAL_LONGEST: usize = 1_500;
+
+/// Totals that need the whole room, and one that leaves a block.
+const WHOLE_TOTALS: [usize; 6] = [65_536, 65_536, 65_536, 65_535, 65_281, 65_280];
 
 /// An open message and where it is.
 #[derive(Clone, Copy)]
@@ -102,28 +106,47 @@ fn total_and_count(
             total_of_need(scene, need)
         }
         Messages::Long => long_total(scene),
-        Messages::Whole => scene.random.pick(&[65_536, 65_536, 65_535, 65_281, 65_280]),
+        Messages::Whole => scene.random.pick(&WHOLE_TOTALS),
     };
     // So many frames are needed at least, if none is to be too large.
-    let least = total.div_ceil(scene.largest_payload(version)).clamp(1, 256);
-    let most = total.min(256);
+    let least = total.div_ceil(scene.largest_payload(version));
     let count = match kind {
-        Messages::Long => scene.random.pick(&[most, most, most, 255, 200, 100]),
-        Messages::Whole => scene.random.pick(&[1, 2, 2, 3, 8, 20, 40]),
-        _ if scene.random.once_in(20) => most,
+        Messages::Long => long_count(scene),
+        _ if scene.random.once_in(20) => endless_count(scene, total),
+        Messages::Whole => scene.random.pick(&[1, 2, 2, 3, 8, 20, 40, total]),
         _ => least + scene.random.pick(&[0, 0, 1, 1, 2, 3, 5]),
     };
-    (total, count.clamp(least.min(most), most))
+    (total, count.clamp(least, total))
 }
 
-/// Mostly a byte or two in each of many frames; rarely the whole room.
+/// Often a byte in each of the frames, mostly one to six; rarely the whole room.
 fn long_total(scene: &mut Scene) -> usize {
     match scene.random.below(12) {
         0 => 65_536,
         1 => scene.random.between(5_000, 20_000),
-        2 => 256,
-        3 => 257,
-        _ => scene.random.between(255, 1_000),
+        2..=4 => scene.random.pick(&[255, 256, 257, 258, 400, 510, 511, 512]),
+        _ => scene.random.between(255, 1_500),
+    }
+}
+
+/// So many frames that a patient mood comes to their end, at the first two
+/// wraps of their numbers and between.
+fn long_count(scene: &mut Scene) -> usize {
+    match scene.random.below(3) {
+        0 => scene.random.between(255, 520),
+        _ => scene
+            .random
+            .pick(&[255, 256, 256, 257, 257, 258, 400, 509, 510, 511, 512]),
+    }
+}
+
+/// So many frames that hardly any mood comes to their end: one for each byte,
+/// or around the wraps and the largest count.
+fn endless_count(scene: &mut Scene, total: usize) -> usize {
+    match scene.random.below(5) {
+        0 | 1 => total,
+        2 | 3 => values::count_at_wrap(scene.random),
+        _ => scene.random.pick(&[65_535, 65_534, 32_768, 1_000]),
     }
 }
 
@@ -192,14 +215,12 @@ pub fn all_open<'a>(scene: &Scene<'a>) -> Vec<Open<'a>> {
 /// The header that the message's next frame has.
 pub fn next_header(open: &Open) -> Header {
     let message = open.message;
-    let last = message.to_come == 1;
-    let number = message.count - message.to_come + 1;
     Header {
         version: open.session.version().unwrap_or(1),
         flag: false,
         frame_type: frame::CONSECUTIVE,
         service: open.service,
-        info: if last { 0 } else { number as u8 },
+        info: message.next_number(),
         session: open.id,
         size: 0,
         id: message.id,

@@ -7,7 +7,7 @@
 //! model.
 
 mod damage;
-mod documents;
+pub mod documents;
 mod faults;
 mod messages;
 pub mod mood;
@@ -17,7 +17,7 @@ mod services;
 use super::headers;
 use super::random::Random;
 use crate::frame::{self, Header, MessageId, ServiceType, SessionId};
-use crate::link::{self, Link, Session};
+use crate::link::{self, Link, OpenMessage, Session};
 pub use damage::damage;
 use mood::Mood;
 
@@ -30,7 +30,7 @@ pub struct Plan {
 }
 
 impl Plan {
-    fn of(header: Header, payload: Vec<u8>) -> Self {
+    pub fn of(header: Header, payload: Vec<u8>) -> Self {
         let size = payload.len() as u32;
         Plan {
             header: Header { size, ..header },
@@ -44,16 +44,19 @@ impl Plan {
         bytes
     }
 
+    /// The open message that this frame goes on with, if it is a consecutive one.
+    fn message<'a>(&self, link: &'a Link) -> Option<&'a OpenMessage> {
+        let header = &self.header;
+        let session = link.session(header.session)?;
+        let message = session.message(header.service)?;
+        (header.frame_type == frame::CONSECUTIVE).then_some(message)
+    }
+
     /// The bytes that a delivery would write if this frame is accepted.
     pub fn due(&self, link: &Link) -> usize {
-        let header = &self.header;
-        match header.frame_type {
+        match self.header.frame_type {
             frame::SINGLE => self.payload.len(),
-            frame::CONSECUTIVE => link
-                .session(header.session)
-                .and_then(|session| session.message(header.service))
-                .map_or(0, |message| message.total),
-            _ => 0,
+            _ => self.message(link).map_or(0, |message| message.total),
         }
     }
 }
@@ -71,7 +74,8 @@ pub fn plan(scene: &mut Scene) -> Plan {
     if scene.link.sessions().len() > 0 && scene.random.below(100) < faults {
         return faults::plan(scene);
     }
-    sensible(scene)
+    let plan = sensible(scene);
+    faults::misnumbered(scene, plan)
 }
 
 /// A frame that makes sense in the link's state, accepted or not.

@@ -11,7 +11,7 @@ pub enum Messages {
     Blocks,
     /// As much as cap and room give, and a block more.
     Caps,
-    /// As many frames as there may be.
+    /// As many frames as a patient mood can send: past one wrap or two.
     Long,
     /// The whole room, in few frames or in many.
     Whole,
@@ -132,8 +132,8 @@ fn usual(random: &mut Random, largest_payload: usize) -> Mood {
         ]),
         open_messages: random.pick(&[2, 8, 40]),
         weights: USUAL,
-        faults: random.pick(&[20, 30, 40, 50]),
-        damage: random.pick(&[5, 10, 15, 20]),
+        faults: random.pick(&[30, 30, 40, 50]),
+        damage: random.pick(&[10, 10, 15, 20]),
         repeats: true,
         largest_payload,
         long_frames: 4,
@@ -141,27 +141,27 @@ fn usual(random: &mut Random, largest_payload: usize) -> Mood {
     }
 }
 
-/// Few faults, so that messages of up to 256 frames come to their end.
+/// Few faults, so that messages of some 255 to 520 frames come to their end.
 fn patient(random: &mut Random, largest_payload: usize) -> Mood {
     Mood {
         sessions: random.pick(&[1, 1, 2]),
-        offers: random.pick(&[Offers::Free, Offers::Bench, Offers::Any]),
+        offers: random.pick(&[Offers::Free, Offers::Free, Offers::Bench]),
         messages: Messages::Long,
-        open_messages: random.pick(&[1, 2]),
+        open_messages: random.pick(&[1, 1, 2]),
         weights: PATIENT,
         faults: random.pick(&[0, 0, 1]),
         damage: random.pick(&[0, 0, 1]),
         repeats: false,
         largest_payload,
         long_frames: 8,
-        left: random.between(300, 600),
+        left: random.between(700, 1_100),
     }
 }
 
 /// Many sessions that ask for much room.
 fn crowded(random: &mut Random, largest_payload: usize) -> Mood {
     Mood {
-        sessions: random.pick(&[2, 2, 3, 4, 7, 8]),
+        sessions: random.pick(&[2, 3, 4, 7, 8, 8]),
         offers: random.pick(&[
             Offers::Greedy,
             Offers::Greedy,
@@ -173,7 +173,7 @@ fn crowded(random: &mut Random, largest_payload: usize) -> Mood {
         open_messages: 40,
         weights: CROWDED,
         faults: random.pick(&[15, 25, 35]),
-        damage: random.pick(&[5, 10]),
+        damage: random.pick(&[5, 10, 15]),
         repeats: true,
         largest_payload,
         long_frames: 6,
