@@ -13,7 +13,7 @@ figures-right = (record { read = refl; written = refl }, (record { read = refl; 
 
 pub numbers-right : NumbersRight
 unfolding frameNumber
-numbers-right = refl
+numbers-right = (refl, refl)
 
 pub totals-right : TotalsRight
 unfolding totalsFit

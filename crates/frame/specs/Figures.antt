@@ -2,7 +2,7 @@
 -- written as those bytes; and the numbers and totals around document 02's A2. Proved in proofs/Figures. Assumes nothing.
 use Prim.Native.Nat.{ℕ}
 use mathlib.Core.Bool.{true, false}
-use mathlib.Core.List.{List, [], _∷_, _++_, map}
+use mathlib.Core.List.{List, [], _∷_, map}
 use mathlib.Core.Path.{_≡_}
 use Rattle.frame.specs.declared.Header.{Header}
 use Rattle.frame.specs.declared.Reading.the-variants.{Frame}
@@ -57,8 +57,8 @@ AllRight (f ∷ fs) = Right f × AllRight fs
 -- "The number after 255 is 1 again": frames of a message of 65,536, then the 256th of 256 and of 257, and the last one of 400
 abbrev pub NumbersRight : Type 0
 NumbersRight =
-    map (λ (k : ℕ). frameNumber k 65536) (1 ∷ 2 ∷ 254 ∷ 255 ∷ 256 ∷ 257 ∷ 510 ∷ 511 ∷ 65535 ∷ 65536 ∷ []) ++ (frameNumber 256 256 ∷ frameNumber 256 257 ∷ frameNumber 400 400 ∷ [])
-    ≡ (1 ∷ 2 ∷ 254 ∷ 255 ∷ 1 ∷ 2 ∷ 255 ∷ 1 ∷ 255 ∷ 0 ∷ []) ++ (0 ∷ 1 ∷ 0 ∷ [])
+    (map (λ (k : ℕ). frameNumber k 65536) (1 ∷ 2 ∷ 254 ∷ 255 ∷ 256 ∷ 257 ∷ 510 ∷ 511 ∷ 65535 ∷ 65536 ∷ []) ≡ 1 ∷ 2 ∷ 254 ∷ 255 ∷ 1 ∷ 2 ∷ 255 ∷ 1 ∷ 255 ∷ 0 ∷ [])
+    × (frameNumber 256 256 ∷ frameNumber 256 257 ∷ frameNumber 400 400 ∷ [] ≡ 0 ∷ 1 ∷ 0 ∷ [])
 
 -- "18 loses its bound 256 on the count": 400 frames, and as many frames as bytes, up to 65,536
 abbrev pub TotalsRight : Type 0

@@ -1,5 +1,5 @@
--- Document 02's A2, through the link: the longest burst that there is, a message of 65,536 frames of one byte, arrives whole. It is demand 2's arrival at its limit,
--- and says besides that so many frames come after the First Frame. That a link admits such a First Frame is in Figures. Proved in proofs/Bursts.
+-- Document 02's A2, through the link: the longest burst that there is, a message of 65,536 frames of one byte, arrives whole. It is demand 2's arrival at its
+-- limit, and says besides that so many frames come after the First Frame. That a link admits such a First Frame is in Figures. Proved in proofs/Bursts.
 -- Assumes nothing.
 use Prim.Native.Nat.{ℕ, _^_, _<_}
 use mathlib.Core.Path.{_≡_}

@@ -1,6 +1,6 @@
 -- The sender refuses with 18 by the length alone: a message has no more frames than bytes, so up to 65,536 bytes its count is never above the total.
 -- Assumes nothing.
-use Prim.Native.Nat.{ℕ, _+_, _-_, _/_, _≤_, _<_}
+use Prim.Native.Nat.{ℕ, _+_, _-_, _/_, _≤_}
 use mathlib.Core.Path.{_≡_, sym}
 use mathlib.Core.Bool.{_||_, true, false}
 use mathlib.Core.List.{List}
@@ -11,7 +11,7 @@ use Rattle.numbers.proofs.Choices.{split}
 use Rattle.frame.specs.Message.{totalsFit}
 use Rattle.frame.proofs.Message.{TotalsRange, totals-unfit, totals-fit}
 use Rattle.sender.specs.declared.Outgoing.{Outgoing}
-use Rattle.sender.specs.Sender.{fitsOne, countOf, refused, sendOf, Ready, Accepted}
+use Rattle.sender.specs.Sender.{fitsOne, countOf, Ready}
 use Rattle.sender.specs.Bursts.{AnyCounts}
 use Rattle.sender.proofs.Counts.{chunk-range, several-length, count-is}
 use Rattle.sender.proofs.Laws.{sends-18}

@@ -1,7 +1,7 @@
 -- What our sender cuts is read back: each frame has no fault, so the writer puts it and the reader reads it back; the chunks join to the message.
 -- Assumes nothing.
-use Prim.Native.Nat.{ℕ, zero, suc, _+_, _-_, _^_, _≤_, _<_}
-use mathlib.Core.Path.{_≡_, refl, ap, _∙_, sym}
+use Prim.Native.Nat.{ℕ, zero, suc, _^_, _≤_, _<_}
+use mathlib.Core.Path.{_≡_, refl, ap, _∙_}
 use mathlib.Core.Bool.{Bool, true, false, _||_}
 use mathlib.Core.List.{List, _++_}
 use native.Mathlib.Omega.{arith}
@@ -21,7 +21,7 @@ use Rattle.frame.proofs.Message.{totals-range, number-inner, number-last}
 use Rattle.frame.proofs.ThereAndBack.{read-back, not-done, put-told}
 use Rattle.sender.specs.declared.Outgoing.{Outgoing}
 use Rattle.sender.specs.Sender.{chunkFits, fitsOne, countOf, chunkOf, Planned, plan, singlePlan, firstPlan, nextPlan, frameAt, lastPlace, bytesOf, joined, refused, sendOf, Accepted}
-use Rattle.sender.specs.ReadBack.{SentFrame, InPieces, SentMessage, SentReadBack}
+use Rattle.sender.specs.ReadBack.{SentFrame, InPieces, SentReadBack}
 use Rattle.sender.proofs.Counts.{chunk-range, several-length, whole-chunk, some-chunk, joined-whole}
 use Rattle.sender.proofs.Laws.{single-fault, first-fault, next-fault, totals-length, at-single, at-first, at-next}
 
@@ -82,11 +82,14 @@ module _ (o : Outgoing) (m : List ℕ) (a : Accepted o m) where
         let c : ℕ = countOf o m in
         let range = totals-range (length m) c (totals e) in
         let p : frameAt o m 0 .payload ≡ bytesBe 4 (length m) ++ bytesBe 4 c = ap (λ (f : Planned). f .payload) (at-first o 0 m e refl) in
-        let info-at : (k : ℕ) → 1 ≤ k → frameAt o m k .header .info ≡ frameNumber k c = λ k h. ap (λ (f : Planned). f .header .info) (at-next o k m e (λ z. omega arith)) in
+        let info-at : (k : ℕ) → 1 ≤ k → frameAt o m k .header .info ≡ frameNumber k c
+        = λ k h. ap (λ (f : Planned). f .header .info) (at-next o k m e (λ z. omega arith)) in
         record {
           first = ap (λ (f : Planned). f .header .kind) (at-first o 0 m e refl);
-          total = rw (p, take-at (bytesBe 4 (length m)) (bytesBe 4 c) 4 (length-be 4 (length m))) (read-written-be 4 (length m) (omega (arith, range .most-bytes)));
-          count = rw (p, drop-at (bytesBe 4 (length m)) (bytesBe 4 c) 4 (length-be 4 (length m))) (read-written-be 4 c (omega (arith, range .most-bytes, range .most-frames)));
+          total = rw (p, take-at (bytesBe 4 (length m)) (bytesBe 4 c) 4 (length-be 4 (length m)))
+              (read-written-be 4 (length m) (omega (arith, range .most-bytes)));
+          count = rw (p, drop-at (bytesBe 4 (length m)) (bytesBe 4 c) 4 (length-be 4 (length m)))
+              (read-written-be 4 c (omega (arith, range .most-bytes, range .most-frames)));
           next = λ k h g. ap (λ (f : Planned). f .header .kind) (at-next o k m e (λ z. omega arith));
           whole = joined-same c ∙ joined-whole o m some wide;
           chunks = λ k h g. ap length (payload-at k h) ∙ whole-chunk o m some wide k h g;
@@ -137,7 +140,7 @@ sent-told o k m out left n e =
       bytes = put-told (bytesOf (frameAt o m k)) out left n d;
     }))))) e
   where
-    past : (test : Bool) (number : ℕ) (rest : Wrote) → (test ≡ true → rest ≡ wrote (Bytes n) left → Told o k m n left) → unless test (refused number out) rest ≡ wrote (Bytes n) left
-        → Told o k m n left
+    past : (test : Bool) (number : ℕ) (rest : Wrote) → (test ≡ true → rest ≡ wrote (Bytes n) left → Told o k m n left)
+        → unless test (refused number out) rest ≡ wrote (Bytes n) left → Told o k m n left
     past test number rest f =
         unless-elim (λ (w : Wrote). w ≡ wrote (Bytes n) left → Told o k m n left) test (refused number out) rest (λ t d. absurd (not-done number out left n d)) f

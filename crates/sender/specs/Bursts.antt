@@ -1,5 +1,5 @@
--- Document 02's A2: "Refusal 18 loses its bound 256 on the count, in link and sender." What 18 still refuses, past 1, 3 and 10, goes by the message's length alone.
--- Proved in proofs/Bursts.
+-- Document 02's A2: "Refusal 18 loses its bound 256 on the count, in link and sender." What 18 still refuses, past 1, 3 and 10, goes by the message's length
+-- alone. Proved in proofs/Bursts.
 -- Assumes nothing.
 use Prim.Native.Nat.{ℕ, _≤_, _<_}
 use mathlib.Core.Bool.{false}

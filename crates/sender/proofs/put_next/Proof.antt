@@ -68,8 +68,10 @@ put-requires c κs =
     let number = ends .before .before in
     let start = number .before .before .before in
     let a = start .args in
-    let l = some-chunk (a .outgoing) (a .message .now) (omega (arith, start .pre .1)) (chunk start .0) (a .place) (omega (arith, start .pre .1)) (omega (arith, start .pre .1)) in
-    rw (cut ends) (next-fault (a .outgoing) (start .pre .0) (number .frame-number .result) (length (chunkOf (a .outgoing) (a .message .now) (a .place))) (l .0) (l .1))
+    let o = a .outgoing in
+    let m = a .message .now in
+    let l = some-chunk o m (omega (arith, start .pre .1)) (chunk start .0) (a .place) (omega (arith, start .pre .1)) (omega (arith, start .pre .1)) in
+    rw (cut ends) (next-fault o (start .pre .0) (number .frame-number .result) (length (chunkOf o m (a .place))) (l .0) (l .1))
 
 returns : tie.Need-returns
 returns c =

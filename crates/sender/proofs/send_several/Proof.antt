@@ -57,7 +57,8 @@ returns-2 c =
     let counted = c .before .before .before in
     let start = counted .before .before .before in
     let a = start .args in
-    sends-26 (a .outgoing) (a .k) (a .message .now) (a .out .now) (start .pre .0) (start .pre .1) (fits (c .before)) (omega (arith, counted .frame-count .ensures))
+    sends-26 (a .outgoing) (a .k) (a .message .now) (a .out .now) (start .pre .0) (start .pre .1) (fits (c .before))
+    (omega (arith, counted .frame-count .ensures))
 
 cast-put-first : tie.Need-cast-put-first
 cast-put-first c = omega (arith, range (c .before .before) .most-bytes)
@@ -76,7 +77,8 @@ returns-3 c =
     let start = counted .before .before .before in
     let a = start .args in
     put .put-first .ensures
-    ∙ ap (λ (x : ℕ). putOf (bytesOf (plan (a .outgoing) 2 0 (bytesBe 4 (length (a .message .now)) ++ bytesBe 4 x))) (a .out .now)) (counted .frame-count .ensures)
+    ∙ ap (λ (x : ℕ). putOf (bytesOf (plan (a .outgoing) 2 0 (bytesBe 4 (length (a .message .now)) ++ bytesBe 4 x))) (a .out .now))
+    (counted .frame-count .ensures)
     ∙ sends-first (a .outgoing) (a .k) (a .message .now) (a .out .now) (start .pre .0) (start .pre .1) (fits fitted) (test .if3 .taken)
 
 cast-put-next : tie.Need-cast-put-next
