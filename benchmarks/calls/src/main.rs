@@ -131,6 +131,17 @@ fn calls(pace: &Path) {
     show("delivers 65,536 bytes, less one that drops them", deliver);
 }
 
+/// A First Frame and the frame that drops its message, in the mean of both: blocks that it takes, and blocks held in front of them.
+fn first_frames(pace: &Path) {
+    for (blocks, held) in [(1, 0), (16, 0), (256, 0), (1, 128), (16, 128), (128, 128)] {
+        let times = each(pace, &script::claimed(blocks, held), None, 2, CALLS / 10);
+        show(
+            &format!("claims or drops {blocks} blocks behind {held}"),
+            times,
+        );
+    }
+}
+
 /// The cost of a call early and late in a run, of messages that come, are dropped and come again.
 fn flat(pace: &Path) {
     let script = script::dropped(script::APPENDED);
@@ -195,6 +206,7 @@ fn main() {
         std::process::exit(2);
     };
     calls(pace);
+    first_frames(pace);
     flat(pace);
     bench(proved, reference, lines);
 }

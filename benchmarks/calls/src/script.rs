@@ -6,6 +6,8 @@ use reference::frame::{self, Header, MessageId, ServiceType, SessionId};
 const CHUNK: usize = 1_488;
 /// Frames of so many bytes in a message that is dropped before it is complete.
 pub const APPENDED: usize = 40;
+/// The bytes of a block.
+const BLOCK: usize = 256;
 /// The largest message.
 const TOTAL: usize = 65_536;
 
@@ -86,11 +88,11 @@ pub fn reply() -> Script {
     }
 }
 
-/// A First Frame of 65,536 bytes in so many frames.
-fn announced(count: usize) -> Vec<u8> {
-    let mut payload = (TOTAL as u32).to_be_bytes().to_vec();
+/// A First Frame of so many bytes in so many frames.
+fn announced(session: u8, total: usize, count: usize) -> Vec<u8> {
+    let mut payload = (total as u32).to_be_bytes().to_vec();
     payload.extend_from_slice(&(count as u32).to_be_bytes());
-    written(5, 2, 0x07, 0, 1, &payload)
+    written(5, 2, 0x07, 0, session, &payload)
 }
 
 /// A wrong number, which drops the message.
@@ -100,7 +102,7 @@ fn wrong() -> Vec<u8> {
 
 /// A message begins, grows by so many frames, and is dropped.
 pub fn dropped(frames: usize) -> Script {
-    let mut again = vec![announced(45)];
+    let mut again = vec![announced(1, TOTAL, 45)];
     for number in 1..=frames {
         let payload: Vec<u8> = (0..CHUNK).map(|i| (i * 7 + number) as u8).collect();
         again.push(written(5, 3, 0x07, number as u8, 1, &payload));
@@ -109,6 +111,18 @@ pub fn dropped(frames: usize) -> Script {
     Script {
         first: vec![opening()],
         again,
+    }
+}
+
+/// A First Frame of so many blocks, and a wrong number that frees them again, while another session holds the first ones.
+pub fn claimed(blocks: usize, held: usize) -> Script {
+    let mut first = vec![opening(), opening()];
+    if held > 0 {
+        first.push(announced(2, held * BLOCK, 1));
+    }
+    Script {
+        first,
+        again: vec![announced(1, blocks * BLOCK, 1), wrong()],
     }
 }
 
@@ -122,6 +136,10 @@ pub fn message(whole: bool) -> Script {
     };
     Script {
         first: vec![opening()],
-        again: vec![announced(2), written(5, 3, 0x07, 1, 1, &payload), last],
+        again: vec![
+            announced(1, TOTAL, 2),
+            written(5, 3, 0x07, 1, 1, &payload),
+            last,
+        ],
     }
 }

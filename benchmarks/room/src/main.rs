@@ -29,19 +29,22 @@ struct Paged<const N: usize>([u8; N]);
 /// What the calls of a round are done to, made anew before each round.
 type Maps = Vec<[u8; BLOCKS]>;
 
-/// With branches, as one writes it. One without is faster only where free blocks lie among others without any order.
+/// With branches, as one writes it; answers how many blocks it looked at. One without is faster only where free blocks lie among others without any order.
 #[inline(never)]
-fn claim_plain(map: &mut [u8], count: usize, owner: u8) {
+fn claim_plain(map: &mut [u8], count: usize, owner: u8) -> usize {
     let mut left = count;
+    let mut looked = 0;
     for entry in map {
         if left == 0 {
             break;
         }
+        looked += 1;
         if *entry == 0 {
             *entry = owner;
             left -= 1;
         }
     }
+    looked
 }
 
 /// The sum is kept in 16 bits, enough for a map: the compiler makes far slower code of one in 64.
@@ -91,9 +94,9 @@ fn maps(free: usize) -> Maps {
     (0..MAPS).map(|_| [(); BLOCKS].map(|()| entry())).collect()
 }
 
-fn print_loop(what: &str, [proved, plain]: [f64; 2]) {
+fn print_loop(what: &str, [proved, plain]: [f64; 2], target: f64) {
     let ratio = proved / plain;
-    println!("{what}: proved {proved:7.1} ns, plain loop {plain:7.1} ns, proved/plain {ratio:.2} (target: at most 1.20)");
+    println!("{what}: proved {proved:7.1} ns, plain loop {plain:7.1} ns, proved/plain {ratio:.2} (target: at most {target:.2})");
 }
 
 fn print_copy(what: &str, [proved, memcpy]: [f64; 2], target: usize) {
@@ -101,9 +104,8 @@ fn print_copy(what: &str, [proved, memcpy]: [f64; 2], target: usize) {
     println!("{what}: proved {proved:7.1} ns, memcpy {memcpy:7.1} ns, memcpy's speed reached {share:.0} % (target: at least {target} %)");
 }
 
-/// Claims that look at the whole map: all that is free and one block more.
-fn measure_claim(what: &str, before: &Maps) {
-    let count = BLOCKS + 1;
+/// Claims of so many blocks.
+fn measure_claim(what: &str, before: &Maps, count: usize, target: f64) {
     let times = least_times(
         MAPS,
         &mut before.clone(),
@@ -111,19 +113,41 @@ fn measure_claim(what: &str, before: &Maps) {
         [
             &|maps| {
                 for map in maps {
-                    proved::claim(black_box(map), count, OWNER);
+                    black_box(proved::claim(black_box(map), count, OWNER));
                     black_box(&map);
                 }
             },
             &|maps| {
                 for map in maps {
-                    claim_plain(black_box(map), count, OWNER);
+                    black_box(claim_plain(black_box(map), count, OWNER));
                     black_box(&map);
                 }
             },
         ],
     );
-    print_loop(what, times);
+    print_loop(what, times, target);
+}
+
+/// Document 02, A3: searches for 1, 16 and 256 blocks, on an empty map, on one whose first half is held, and on one with every second block held.
+fn measure_searches() {
+    let maps = |held: fn(usize) -> bool| -> Maps {
+        vec![std::array::from_fn(|block| u8::from(held(block))); MAPS]
+    };
+    for (what, before) in [
+        ("empty map        ", maps(|_| false)),
+        ("first half held  ", maps(|block| block < BLOCKS / 2)),
+        ("every second held", maps(|block| block % 2 == 0)),
+    ] {
+        check_same(&before);
+        for count in [1, 16, 256] {
+            measure_claim(
+                &format!("room: claim {count:3}, {what}"),
+                &before,
+                count,
+                1.0,
+            );
+        }
+    }
 }
 
 fn measure_held(what: &str, maps: &Maps) {
@@ -144,7 +168,7 @@ fn measure_held(what: &str, maps: &Maps) {
             },
         ],
     );
-    print_loop(what, times);
+    print_loop(what, times, 1.2);
 }
 
 /// Appends to a message that has all blocks; answers the time of one.
@@ -204,11 +228,13 @@ fn measure_delivery() {
 /// Both sides do the same on this data, or nothing is measured.
 fn check_same(maps: &Maps) {
     for map in maps {
-        let (mut proved, mut plain) = (*map, *map);
-        proved::claim(&mut proved, BLOCKS + 1, OWNER);
-        claim_plain(&mut plain, BLOCKS + 1, OWNER);
-        assert_eq!(proved, plain);
-        assert_eq!(proved::held(&proved, OWNER), held_plain(&plain, OWNER));
+        for count in [0, 1, 16, BLOCKS, BLOCKS + 1] {
+            let (mut proved, mut plain) = (*map, *map);
+            let looked = proved::claim(&mut proved, count, OWNER);
+            assert_eq!(looked, claim_plain(&mut plain, count, OWNER));
+            assert_eq!(proved, plain);
+            assert_eq!(proved::held(&proved, OWNER), held_plain(&plain, OWNER));
+        }
     }
     let bytes: Vec<u8> = (0..POOL).map(|i| (i * 7 + i / 256) as u8).collect();
     let (mut pool, mut out) = (vec![0; POOL], vec![0; POOL]);
@@ -224,9 +250,26 @@ fn main() {
     [&all_free, &mixed, &none_free]
         .into_iter()
         .for_each(check_same);
-    measure_claim("room: claim, all 256 blocks free  ", &all_free);
-    measure_claim("room: claim, half of them free    ", &mixed);
-    measure_claim("room: claim, none free            ", &none_free);
+    // All that is free and one block more, so that the whole map is looked at.
+    measure_claim(
+        "room: claim, all 256 blocks free  ",
+        &all_free,
+        BLOCKS + 1,
+        1.2,
+    );
+    measure_claim(
+        "room: claim, half of them free    ",
+        &mixed,
+        BLOCKS + 1,
+        1.2,
+    );
+    measure_claim(
+        "room: claim, none free            ",
+        &none_free,
+        BLOCKS + 1,
+        1.2,
+    );
+    measure_searches();
     measure_held("room: count                       ", &mixed);
     let start = measure_append("room: append 1,488 bytes at 0     ", 0);
     let deep = measure_append("room: append 1,488 bytes at 60,000", DEEP);

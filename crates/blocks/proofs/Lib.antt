@@ -1,7 +1,9 @@
 pub mod Over
 pub mod Counts
 pub mod Contents
+pub mod Looks
 mod Turns
+mod Search
 mod Parts
 mod Appends
 mod Deliveries

@@ -13,31 +13,17 @@ use lib.Seq.{drop-cons, take-suc, take-suc-set, drop-set-lt, append-snoc, take-a
 use Rattle.numbers.specs.Bytes.{pick}
 use Rattle.numbers.proofs.Slices.{rest-lent}
 use Rattle.blocks.specs.Map.{free, heldBy, claimed, released, nthNumber}
-use Rattle.blocks.proofs.Counts.{claim-none, claim-taken, claim-held, place-here, place-later, place-not, place-owner, place-skip}
+use Rattle.blocks.proofs.Counts.{claim-none, place-here, place-later, place-not, place-owner, place-skip}
 
--- a pass over a list at i: the entry is kept, or v is stored there
-pub kept-at : (g : List ℕ → List ℕ) (p : List ℕ) (i : ℕ) → i < length p → take (i + 1) p ++ g (drop (i + 1) p) ≡ take i p ++ (getD p i 0 ∷ g (drop (suc i) p))
-kept-at g p i h = rw (add-one, take-suc p i 0, append-snoc)
-
+-- a pass over a list at i: v is stored there
 pub stored-at : (g : List ℕ → List ℕ) (p : List ℕ) (i v : ℕ) → i < length p
     → take (i + 1) (set p i v) ++ g (drop (i + 1) (set p i v)) ≡ take i p ++ (v ∷ g (drop (suc i) p))
 stored-at g p i v h =
     let e : i < suc i = omega arith in
     rw (add-one, take-suc-set, drop-set-lt (suc i) p i v e, append-snoc)
 
--- claiming: an entry that is taken, one that is not free, nothing left to claim, the end
+-- claiming: nothing left to claim, the end
 module _ (owner n : ℕ) (p : List ℕ) (i : ℕ) where
-  pub claim-turn : i < length p → getD p i 0 ≡ free → 0 < n
-      → take (i + 1) (set p i owner) ++ claimed owner (n - 1) (drop (i + 1) (set p i owner)) ≡ take i p ++ claimed owner n (drop i p)
-  claim-turn h e g =
-      stored-at (claimed owner (n - 1)) p i owner h
-      ∙ ap (λ (t : List ℕ). take i p ++ t) (sym (claim-taken owner n (getD p i 0) (drop (suc i) p) e g) ∙ ap (claimed owner n) (sym (drop-cons p i 0 h)))
-
-  pub claim-pass : i < length p → getD p i 0 ≢ free → take (i + 1) p ++ claimed owner n (drop (i + 1) p) ≡ take i p ++ claimed owner n (drop i p)
-  claim-pass h e =
-      kept-at (claimed owner n) p i h
-      ∙ ap (λ (t : List ℕ). take i p ++ t) (sym (claim-held owner n (getD p i 0) (drop (suc i) p) e) ∙ ap (claimed owner n) (sym (drop-cons p i 0 h)))
-
   pub claim-done : n ≡ 0 → take i p ++ claimed owner n (drop i p) ≡ p
   claim-done e = rw (e, claim-none owner (drop i p)) (take-append-drop i p)
 

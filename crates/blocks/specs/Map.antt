@@ -1,6 +1,6 @@
 -- The block map: a number for each block, its owner, `free` where it has none. Document 01: "it takes the lowest free blocks in
 -- rising order". An owner's blocks are the entries that bear its number, so their order needs no record. Assumes nothing.
-use Prim.Native.Nat.{ℕ, zero, suc, _+_, _-_, _/_, _<_, _≤_}
+use Prim.Native.Nat.{ℕ, zero, suc, _+_, _-_, _/_, _<_, _≤_, max}
 use mathlib.Core.Bool.{_&&_}
 use mathlib.Core.List.{List, [], _∷_}
 use lib.Dec.{eqb, ltb, leb}
@@ -57,6 +57,12 @@ unfoldable pub claimed : ℕ → ℕ → List ℕ → List ℕ
 claimed owner n [] = []
 claimed owner n (o ∷ map) = pick (eqb o free && ltb 0 n) (owner ∷ claimed owner (n - 1) map) (o ∷ claimed owner n map)
 
+-- document 02, A3: "the search counts the blocks it looks at": one after another from the first on, each once, while blocks are still wanted. So it looks at
+-- none if none is wanted, and at every one if too few are free
+unfoldable pub lookedFor : ℕ → List ℕ → ℕ
+lookedFor n [] = 0
+lookedFor n (o ∷ map) = pick (eqb n 0) 0 (1 + lookedFor (pick (eqb o free) (n - 1) n) map)
+
 -- "and frees them": the map after all blocks of the owners from low to high were freed
 unfoldable pub released : ℕ → ℕ → List ℕ → List ℕ
 released low high [] = []
@@ -70,6 +76,11 @@ numbersFrom b owner (o ∷ map) = pick (eqb o owner) (b ∷ numbersFrom (suc b) 
 -- the numbers of an owner's blocks, rising
 abbrev pub blockNumbers : ℕ → List ℕ → List ℕ
 blockNumbers owner map = numbersFrom 0 owner map
+
+-- the highest of some block numbers; 0 if there is none
+unfoldable pub highestOf : List ℕ → ℕ
+highestOf [] = 0
+highestOf (b ∷ numbers) = max b (highestOf numbers)
 
 -- the number of an owner's block at the place n, from 0, in rising order; the map's length if it has not so many
 unfoldable pub nthNumber : ℕ → ℕ → List ℕ → ℕ

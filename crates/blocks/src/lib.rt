@@ -5,10 +5,11 @@ ghost use mathlib.Core.Path.{_≡_};
 ghost use Prim.Native.Nat.{_+_, _*_, _≤_, _<_, min};
 ghost use lib.Dec.{eqb, ltb, leb};
 ghost use mathlib.Core.Bool.{_&&_};
-ghost use lib.ListN.{length};
+ghost use mathlib.Core.List.{_++_};
+ghost use lib.ListN.{length, take, drop};
 ghost use denote.Ref.{at-last};
 ghost use Rattle.numbers.specs.Bytes.{pick};
-ghost use Rattle.blocks.specs.Map.{blockSize, free, neededFor, freeMap, heldBy, freeIn, claimed, released, nthNumber, nthFrom, nthBlock};
+ghost use Rattle.blocks.specs.Map.{blockSize, free, neededFor, freeMap, heldBy, freeIn, claimed, lookedFor, released, nthNumber, nthFrom, nthBlock};
 ghost use Rattle.blocks.specs.Pool.{Sized, over, appended, appendedFrom, delivered, deliveredFrom};
 
 // A block's place in the pool: block b has the BLOCK_SIZE bytes from BLOCK_SIZE * b on.
@@ -21,6 +22,12 @@ pub struct Owner(pub u8);
 struct Skipped {
     from: BlockNumber,
     left: usize,
+}
+
+// A free block that was looked for, or the map's end, and how many blocks have been looked at by then.
+struct Sought {
+    block: BlockNumber,
+    looked: usize,
 }
 
 // One of an owner's blocks, or that it has not so many.
@@ -44,7 +51,7 @@ const HALF: usize = 128;
 // Entries of the map that are counted at once: few enough for a count of one byte, so that sixteen of them are compared in one step.
 const GROUP: usize = 64;
 
-// Entries of the map that are looked through one by one.
+// Entries of the map that are looked through one by one, and those that are claimed in one step.
 const FEW: usize = 16;
 
 // The map in which every block is free.
@@ -117,26 +124,95 @@ pub fn free_count(map: &[u8]) -> usize
     held(map, Owner(FREE))
 }
 
-// The map after the lowest `count` free blocks, or all of them if there are fewer, went to an owner: one pass, that ends with the last block taken.
-pub fn claim(map: [u8; BLOCK_COUNT], count: usize, owner: Owner) -> [u8; BLOCK_COUNT]
-    ensures { λ r. ⌜ r ≡ claimed (owner .0) count map ⌝ }
+// An entry after an owner took it, if it was free.
+fn entry_claimed(entry: u8, number: u8) -> u8
+    ensures { λ r. ⌜ r ≡ pick (eqb entry free) number entry ⌝ }
 {
-    let number = owner.0;
-    let mut after = map;
-    let mut wanted = count;
-    let mut block = BlockNumber(0);
-    while block.0 < BLOCK_COUNT {
-        if wanted == 0 {
-            return after;
-        }
+    if entry == FREE { number } else { entry }
+}
+
+// Gives every free one of some entries to an owner, and tells how many they were: numbers and no branch, as in `count_group`.
+fn claim_all(entries: &mut [u8], number: u8) -> u8
+    requires { ⌜ length (now entries) ≤ 64 ⌝ }
+    ensures { λ r. ⌜ r ≡ freeIn (now (entries .entry)) ⌝ }
+    ensures { λ _. ⌜ now (entries .exit) ≡ claimed number (length (now (entries .entry))) (now (entries .entry)) ⌝ }
+{
+    let mut count: u8 = 0;
+    let mut i: usize = 0;
+    while i < entries.len() {
+        let entry = entries[i];
+        count += one_if_same(entry, FREE);
+        entries[i] = entry_claimed(entry, number);
+        i += 1;
+    }
+    count
+}
+
+// Looks at one block after another, from a block on, up to a free one or to the map's end, and counts those that it looks at on from `before`.
+fn seek(map: &[u8], from: BlockNumber, before: usize) -> Sought
+    requires { ⌜ before ≤ from .0 ⌝ }
+    ensures { λ r. ⌜ (r .block .0 ≡ nthFrom free (from .0) 0 (now (map .entry))) × (r .looked ≡ before + lookedFor 1 (drop (from .0) (now (map .entry)))) ⌝ }
+{
+    let mut looked = before;
+    let mut block = from;
+    while block.0 < map.len() {
         let i = block.0;
-        if after[i] == FREE {
-            after[i] = number;
-            wanted -= 1;
+        looked = looked + 1;
+        if map[i] == FREE {
+            return Sought { block, looked };
         }
         block = BlockNumber(i + 1);
     }
-    after
+    Sought { block, looked }
+}
+
+// The same as `claim` from a block on, one block at a time: the search for each resumes behind the one found last.
+fn claim_singly(
+    map: &mut [u8],
+    count: usize,
+    number: u8,
+    first: BlockNumber,
+    before: usize,
+) -> usize
+    requires { ⌜ (first .0 ≤ length (now map)) × (before ≤ first .0) ⌝ }
+    ensures { λ r. ⌜ r ≡ before + lookedFor count (drop (first .0) (now (map .entry))) ⌝ }
+    ensures { λ _. ⌜ now (map .exit) ≡ take (first .0) (now (map .entry)) ++ claimed number count (drop (first .0) (now (map .entry))) ⌝ }
+{
+    let mut wanted = count;
+    let mut looked = before;
+    let mut from = first;
+    while 0 < wanted {
+        let found = seek(map, from, looked);
+        looked = found.looked;
+        let i = found.block.0;
+        if map.len() <= i {
+            return looked;
+        }
+        map[i] = number;
+        wanted -= 1;
+        from = BlockNumber(i + 1);
+    }
+    looked
+}
+
+// Gives the lowest `count` free blocks, or all of them if there are fewer, to an owner, and tells how many blocks it looked at for that: each once, up to the
+// last one found. Where FEW or more are still wanted, that one does not lie before the end of the next FEW, so these are looked at in one step.
+pub fn claim(map: &mut [u8], count: usize, owner: Owner) -> usize
+    ensures { λ r. ⌜ r ≡ lookedFor count (now (map .entry)) ⌝ }
+    ensures { λ _. ⌜ now (map .exit) ≡ claimed (owner .0) count (now (map .entry)) ⌝ }
+{
+    let number = owner.0;
+    let mut wanted = count;
+    let mut looked: usize = 0;
+    let mut from = BlockNumber(0);
+    while FEW <= numbers::least(wanted, map.len() - from.0) {
+        let start = from.0;
+        let end = start + FEW;
+        wanted -= wide(claim_all(&mut map[start..end], number));
+        looked = looked + FEW;
+        from = BlockNumber(end);
+    }
+    claim_singly(map, wanted, number, from, looked)
 }
 
 // An entry after the owners from low to high gave up their blocks.

@@ -13,6 +13,7 @@ ghost use Rattle.frame.specs.Read.{readOf};
 ghost use Rattle.payload.specs.Tags.{protocolVersion};
 ghost use Rattle.payload.specs.Version.{versionOf, lesserOf};
 ghost use Rattle.payload.specs.Reply.{nakPayload};
+ghost use Rattle.blocks.specs.Map.{claimed};
 ghost use Rattle.blocks.specs.Pool.{blockBytes, appended};
 ghost use Rattle.session.specs.Decide.{shareOf};
 ghost use Rattle.link.specs.declared.Grant.{Grant as Offer};
@@ -95,6 +96,15 @@ fn with_row(link: Link, i: usize, row: Row) -> Link
     changed
 }
 
+// The block map after a First Frame's blocks were claimed. How many blocks the search looked at ends with the search: it is no part of the state.
+fn with_claimed(owners: [u8; 256], need: usize, mine: Owner) -> [u8; 256]
+    ensures { λ r. ⌜ r ≡ claimed (mine .0) need owners ⌝ }
+{
+    let mut after = owners;
+    blocks::claim(&mut after, need, mine);
+    after
+}
+
 // The block map after a decision about row i's message at a place.
 fn owners_after(owners: [u8; 256], i: usize, place: usize, act: Act) -> [u8; 256]
     requires { ⌜ (i < 8) × (place < 5) ⌝ }
@@ -111,7 +121,7 @@ fn owners_after(owners: [u8; 256], i: usize, place: usize, act: Act) -> [u8; 256
         Act::Stop => blocks::release(owners, mine, mine),
         Act::Close => blocks::release(owners, owner(i, 0), owner(i, 4)),
         Act::NoEnd(_) => owners,
-        Act::Claim(total, _) => blocks::claim(owners, session::need_of(total), mine),
+        Act::Claim(total, _) => with_claimed(owners, session::need_of(total), mine),
         Act::Append => owners,
         Act::Deliver => blocks::release(owners, mine, mine),
         Act::Single => owners,

@@ -24,6 +24,7 @@ pub mod Barred
 pub mod CutFrames
 pub mod Arrival
 pub mod Bursts
+pub mod Search
 pub mod Demand
 pub mod Values
 pub mod Refusals

@@ -196,13 +196,18 @@ module _ (s : State) (i n : ℕ) (k : Sane s) (f : OpenFacts s i n) where
       (omega (arith, release-takes o o o map (owner-some n place) (omega arith) (omega arith), f .room place below))
       (omega (arith, release-one o map (owner-some n place), f .room place below))
 
-  -- blocks claimed, where the room check passed: so many are free
+  -- the room check passed: so many blocks are free
+  pub claim-room : (need : ℕ) → room + max (heldOf r + need) (r .guarantee) ≤ 256 → need ≤ freeIn map
+  claim-room need w =
+      let all : heldByAll 1 40 map ≡ heldsIn (s .link .rows) = forty major map (s .link .rows) (k .rows) (k .five) (rules .rows) in
+      omega (arith, helds-less (s .link .rows) n (f .below), share-below (s .link .rows) n (f .below), rules .blocks)
+
+  -- then blocks are claimed
   put-claimed : {place : ℕ} {after : Row} (need : ℕ) → place < 5 → room + max (heldOf r + need) (r .guarantee) ≤ 256 → RowKept major room place r after 0 need
       → Put s n after (claimed (ownerOf n place) need map)
   put-claimed {place} need below w x =
       let o : ℕ = ownerOf n place in
-      let all : heldByAll 1 40 map ≡ heldsIn (s .link .rows) = forty major map (s .link .rows) (k .rows) (k .five) (rules .rows) in
-      let free : need ≤ freeIn map = omega (arith, helds-less (s .link .rows) n (f .below), share-below (s .link .rows) n (f .below), rules .blocks) in
+      let free : need ≤ freeIn map = claim-room need w in
       put-kept (claimed o need map) below x (claim-length o need map)
       (λ j q h d. claim-leaves (ownerOf j q) o need map (owner-apart n j place q below h d) (owner-some j q))
       (omega (arith, claim-gives o need map (owner-some n place))) (omega (arith, claim-lowers o need map (owner-some n place)))

@@ -9,4 +9,5 @@ pub mod Pages
 pub mod ReadBack
 pub mod Arrival
 pub mod Bursts
+pub mod Search
 pub mod Figures

@@ -5,7 +5,7 @@ ghost use mathlib.Core.List.{List};
 ghost use lib.Dec.{eqb, ltb};
 ghost use lib.ListN.{length};
 ghost use Rattle.numbers.specs.Bytes.{pick};
-ghost use Rattle.blocks.specs.Map.{neededFor, heldBy, claimed, released, nthNumber};
+ghost use Rattle.blocks.specs.Map.{neededFor, heldBy, claimed, lookedFor, released, nthNumber};
 ghost use Rattle.blocks.specs.Pool.{appended, delivered};
 ghost use Rattle.room.specs.Room.{ifWhole, placeIn};
 use blocks::Found;
@@ -43,17 +43,13 @@ pub extern "C" fn tilambok_room_held(map: &[u8], owner: u8) -> usize
     blocks::held(map, Owner(owner))
 }
 
+// How many blocks the search looked at; the map may be of any length.
 #[no_mangle]
-pub extern "C" fn tilambok_room_claim(map: &mut [u8], count: usize, owner: u8) -> u8
-    ensures { λ r. ⌜ r ≡ pick (eqb (length (now (map .entry))) 256) 1 0 ⌝ }
-    ensures { λ _. ⌜ now (map .exit) ≡ ifWhole (claimed owner count) (now (map .entry)) ⌝ }
+pub extern "C" fn tilambok_room_claim(map: &mut [u8], count: usize, owner: u8) -> usize
+    ensures { λ r. ⌜ r ≡ lookedFor count (now (map .entry)) ⌝ }
+    ensures { λ _. ⌜ now (map .exit) ≡ claimed owner count (now (map .entry)) ⌝ }
 {
-    if map.len() == 256 {
-        let after = blocks::claim(array_of(map), count, Owner(owner));
-        put_back(after, map);
-        return 1;
-    }
-    0
+    blocks::claim(map, count, Owner(owner))
 }
 
 #[no_mangle]

@@ -1,11 +1,12 @@
-//! The room that open messages share (document 01, "Messages"): a pool of
-//! 65,536 bytes in 256 blocks.
+//! The room that open messages share (document 01, "Messages"; document 02,
+//! A3): a pool of 65,536 bytes in 256 blocks.
 //!
 //! A message keeps the numbers of its blocks, the room keeps the numbers of
 //! the free ones. There is no map from blocks to owners here: another program
 //! that has one is compared with these lists.
 
 use std::collections::{BTreeMap, BTreeSet};
+use std::ops::RangeInclusive;
 
 /// The bytes of a block.
 pub const BLOCK_SIZE: usize = 256;
@@ -46,6 +47,39 @@ impl Message {
     }
 }
 
+/// A search for free blocks. It lives for one claim alone, so that the room
+/// keeps nothing of where it stopped.
+struct Search<'a> {
+    free: &'a mut BTreeSet<BlockNumber>,
+    /// The numbers of the blocks that it has not looked at, in rising order.
+    ahead: RangeInclusive<u8>,
+    /// The blocks that it has looked at.
+    looked: usize,
+}
+
+impl<'a> Search<'a> {
+    fn among(free: &'a mut BTreeSet<BlockNumber>) -> Self {
+        Search {
+            free,
+            ahead: 0..=u8::MAX,
+            looked: 0,
+        }
+    }
+
+    /// Takes the next free block: "resume from the last one found". A block
+    /// counts when it is looked at, whether it is free or not.
+    fn take_next(&mut self) -> Option<BlockNumber> {
+        for number in self.ahead.by_ref() {
+            self.looked += 1;
+            let block = BlockNumber(number);
+            if self.free.remove(&block) {
+                return Some(block);
+            }
+        }
+        None
+    }
+}
+
 /// The pool, the messages in it, and what is free. A message goes by the
 /// name of its owner; the link names it by session and service.
 #[derive(Clone)]
@@ -70,17 +104,25 @@ impl<Name: Ord> Room<Name> {
     /// The owner "takes the lowest free blocks in rising order and writes
     /// nothing". If fewer than `count` are free, it takes these.
     ///
+    /// Answers how many blocks were looked at: "the search counts the blocks
+    /// it looks at, proved for an admitted First Frame to be its highest
+    /// block's number, from 0, plus 1". It stops with the last block that is
+    /// wanted; if fewer are free, it has looked at every block of the pool.
+    ///
     /// No message takes blocks twice in document 01. If one does, its blocks
     /// are ordered anew, as their numbers alone tell the order.
-    pub fn claim(&mut self, owner: Name, count: usize) {
+    pub fn claim(&mut self, owner: Name, count: usize) -> usize {
         let blocks = &mut self.messages.entry(owner).or_default().blocks;
+        let mut search = Search::among(&mut self.free);
         for _ in 0..count {
-            let Some(lowest) = self.free.pop_first() else {
+            let Some(lowest) = search.take_next() else {
                 break;
             };
             blocks.push(lowest);
         }
+        let looked = search.looked;
         blocks.sort();
+        looked
     }
 
     /// The payload goes "right behind the bytes already there; no other pool

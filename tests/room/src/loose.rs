@@ -66,18 +66,22 @@ fn claim(random: &mut Random) -> Result<(), Fault> {
         0 => random.pick(&[free.len(), free.len() + 1, 256, 257, 1 << 32, usize::MAX]),
         _ => random.between(0, free.len()),
     };
-    let allowed = map.len() == BLOCK_COUNT;
     let mut expected = map.clone();
-    if allowed {
-        for &block in free.iter().take(count) {
-            expected[block] = owner;
-        }
+    for &block in free.iter().take(count) {
+        expected[block] = owner;
     }
+    // Up to the last block that is taken, or all if more are wanted.
+    let taken = free.iter().take(count).last();
+    let looked = match taken {
+        _ if count > free.len() => map.len(),
+        Some(&last) => last + 1,
+        None => 0,
+    };
     let mut lent = Guarded::of(&map);
-    let done = proved::claim(lent.bytes_mut(), count, owner);
+    let answered = proved::claim(lent.bytes_mut(), count, owner);
     let fault =
         |found: Difference| found.during(format!("claim {count} for {owner} in {map:02x?}"));
-    same(answer, allowed as u8, done).map_err(fault)?;
+    same(|| "the blocks looked at".into(), looked, answered).map_err(fault)?;
     lent.holds("the map", &expected).map_err(fault)
 }
 

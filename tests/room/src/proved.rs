@@ -6,7 +6,12 @@ mod c {
         pub fn tilambok_room_held(map: *const u8, map_length: usize, owner: u8) -> usize;
         pub fn tilambok_room_block(map: *const u8, map_length: usize, owner: u8, n: usize)
             -> usize;
-        pub fn tilambok_room_claim(map: *mut u8, map_length: usize, count: usize, owner: u8) -> u8;
+        pub fn tilambok_room_claim(
+            map: *mut u8,
+            map_length: usize,
+            count: usize,
+            owner: u8,
+        ) -> usize;
         pub fn tilambok_room_release(map: *mut u8, map_length: usize, low: u8, high: u8) -> u8;
         pub fn tilambok_room_append(
             map: *const u8,
@@ -49,8 +54,9 @@ pub fn block(map: &[u8], owner: u8, n: usize) -> usize {
     unsafe { c::tilambok_room_block(map.as_ptr(), map.len(), owner, n) }
 }
 
-/// Gives the lowest free blocks to the owner; 0 if the map is of another length.
-pub fn claim(map: &mut [u8], count: usize, owner: u8) -> u8 {
+/// Gives the lowest free blocks to the owner, and answers how many blocks it
+/// looked at. The map may be of any length.
+pub fn claim(map: &mut [u8], count: usize, owner: u8) -> usize {
     unsafe { c::tilambok_room_claim(map.as_mut_ptr(), map.len(), count, owner) }
 }
 

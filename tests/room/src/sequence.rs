@@ -61,14 +61,14 @@ impl Sequence {
     }
 
     fn claim(&mut self, owner: u8, count: usize) -> Result<(), Difference> {
-        self.room.claim(Owner(owner), count);
+        let expected = self.room.claim(Owner(owner), count);
         // New blocks may lie below old ones; then the message's bytes are others.
         let mut first_bytes = vec![0; self.room.length(Owner(owner))];
         self.room
             .deliver(Owner(owner), first_bytes.len(), &mut first_bytes);
         self.sent[owner as usize] = first_bytes;
-        let done = proved::claim(self.map.bytes_mut(), count, owner);
-        same(|| "the answer".into(), 1, done)
+        let looked = proved::claim(self.map.bytes_mut(), count, owner);
+        same(|| "the blocks looked at".into(), expected, looked)
     }
 
     fn append(&mut self, owner: u8, payload: &[u8]) {

@@ -15,7 +15,7 @@ returns-8 : tie.Need-returns-8
 returns-8 c = rw ((c .before .before .before .enum-told8 .given .1), (c .release3 .ensures), (c .before .before .owner2 .ensures), (c .before .owner3 .ensures))
 
 returns-10 : tie.Need-returns-10
-returns-10 c = rw ((c .before .before .before .act .given .1), (c .claim .ensures), (c .before .need-of .ensures .0), (c .before .before .before .before .before .owner .ensures))
+returns-10 c = rw ((c .before .before .before .act .given .1), (c .with-claimed .ensures), (c .before .need-of .ensures .0), (c .before .before .before .before .before .owner .ensures))
 
 returns-12 : tie.Need-returns-12
 returns-12 c = rw ((c .before .enum-told11 .given .1), (c .release4 .ensures), (c .before .before .before .owner .ensures))
@@ -28,7 +28,7 @@ owners-after-spec =
     (λ c. search needs) (λ c. search needs) (λ c. search needs) (λ c. search needs)  -- enum-told-3, enum-told-4, enum-told-5, enum-told-6
     (λ c. search needs) (λ c κs. search needs) (λ c. search needs) (λ c κs. search needs)  -- enum-told-7, release-requires-2, enum-told-8, owner-requires-2
     (λ c κs. search needs) (λ c κs. search needs) (λ c. search needs) (λ c. search needs)  -- owner-requires-3, release-requires-3, enum-told-9, enum-known-act
-    (λ c κs. search needs) (λ c κs. search needs) (λ c. search needs) (λ c. search needs)  -- need-of-requires, claim-requires, enum-told-10, enum-told-11
+    (λ c κs. search needs) (λ c κs. search needs) (λ c. search needs) (λ c. search needs)  -- need-of-requires, with-claimed-requires, enum-told-10, enum-told-11
     (λ c κs. search needs) (λ c. search needs) (λ c. search needs)  -- release-requires-4, enum-told-12, returns
     returns-2
     (λ c. search needs) (λ c. search needs) (λ c. search needs) (λ c. search needs)  -- returns-3, returns-4, returns-5, returns-6

@@ -4,7 +4,7 @@ use super::{Effect, Link, OpenMessage, Place, Session, LARGEST_CAP};
 use crate::burst;
 use crate::frame::{Frame, Header, SessionId};
 use crate::refusal::Refusal;
-use crate::room;
+use crate::room::{self, BlockNumber};
 
 impl Link {
     /// "A single frame delivers its payload likewise."
@@ -28,7 +28,10 @@ impl Link {
         }
         let need = room::needed(total);
         self.admit(header.session, need)?;
-        self.room.claim(place_of(header), need);
+        let place = place_of(header);
+        let looked = self.room.claim(place, need);
+        // Document 02, A3. No answer tells the count.
+        debug_assert_eq!(looked, behind_highest(self.room.blocks(place)));
         let session = self.open_session(header.session);
         session.settle(header.version);
         let message = OpenMessage {
@@ -138,9 +141,99 @@ fn total_and_count(payload: &[u8]) -> (usize, usize) {
     (number(&payload[..4]), number(&payload[4..]))
 }
 
+/// The "highest block's number, from 0, plus 1"; they are in rising order.
+fn behind_highest(blocks: &[BlockNumber]) -> usize {
+    blocks.last().map_or(0, |block| usize::from(block.0) + 1)
+}
+
 fn place_of(header: &Header) -> Place {
     Place {
         session: header.session,
         service: header.service,
+    }
+}
+
+#[cfg(test)]
+mod tests {
+    use super::*;
+    use crate::driver::Driver;
+    use crate::generate::{write_script, Form};
+
+    /// An admitted First Frame.
+    struct Admission {
+        /// The blocks that the search for its own ones looked at.
+        looked: usize,
+        blocks: Vec<BlockNumber>,
+        /// How many other sessions held blocks.
+        others: usize,
+    }
+
+    impl Admission {
+        /// That of the call between these two, if there is one. The count is
+        /// told by the same claim, made again in the room that the call found.
+        fn between(before: &Link, after: &Link) -> Option<Self> {
+            let place = opened(before, after)?;
+            let blocks = after.blocks(place);
+            let mut room = before.room.clone();
+            let looked = room.claim(place, blocks.len());
+            assert_eq!(room.blocks(place), blocks);
+            let others = before
+                .sessions()
+                .filter(|&(id, _)| id != place.session && before.held(id) > 0);
+            Some(Admission {
+                looked,
+                blocks: blocks.to_vec(),
+                others: others.count(),
+            })
+        }
+
+        /// Whether blocks of other messages are between its own.
+        fn scattered(&self) -> bool {
+            let lowest = usize::from(self.blocks[0].0);
+            behind_highest(&self.blocks) - lowest > self.blocks.len()
+        }
+    }
+
+    /// The message that is open after a call and was not before it.
+    fn opened(before: &Link, after: &Link) -> Option<Place> {
+        let mut places = after.sessions().flat_map(|(session, row)| {
+            let services = row.messages().map(|(service, _)| service);
+            services.map(move |service| Place { session, service })
+        });
+        places.find(|&place| before.blocks(place).is_empty())
+    }
+
+    /// The admitted First Frames of a script.
+    fn admissions(seed: u64) -> Vec<Admission> {
+        let mut script = Vec::new();
+        write_script(Form::Calls, seed, 2_500, &mut script).unwrap();
+        let mut driver = Driver::default();
+        let mut admissions = Vec::new();
+        for line in script.split(|&byte| byte == b'\n') {
+            let before = driver.link().cloned();
+            driver.answer(line, &mut Vec::new());
+            if let (Some(before), Some(after)) = (before, driver.link()) {
+                admissions.extend(Admission::between(&before, after));
+            }
+        }
+        admissions
+    }
+
+    #[test]
+    fn the_search_of_a_first_frame_ends_at_its_highest_block() {
+        let admissions: Vec<Admission> = (1..=8).flat_map(admissions).collect();
+        for admission in &admissions {
+            assert_eq!(admission.looked, behind_highest(&admission.blocks));
+        }
+        // The scripts hold what makes a search long: several sessions with
+        // messages, and blocks between them that were freed again.
+        let times = |test: fn(&&Admission) -> bool| admissions.iter().filter(test).count();
+        assert!(admissions.len() >= 1_000, "{}", admissions.len());
+        let crowded = times(|admission| admission.others >= 2);
+        assert!(crowded >= 200, "{crowded}");
+        let scattered = times(|admission| admission.scattered());
+        assert!(scattered >= 80, "{scattered}");
+        let to_the_end = times(|admission| admission.looked == room::BLOCK_COUNT);
+        assert!(to_the_end >= 20, "{to_the_end}");
     }
 }
