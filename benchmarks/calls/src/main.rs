@@ -134,7 +134,7 @@ fn calls(pace: &Path) {
 /// A First Frame and the frame that drops its message, in the mean of both: blocks that it takes, and blocks held in front of them.
 fn first_frames(pace: &Path) {
     for (blocks, held) in [(1, 0), (16, 0), (256, 0), (1, 128), (16, 128), (128, 128)] {
-        let times = each(pace, &script::claimed(blocks, held), None, 2, CALLS / 10);
+        let times = each(pace, &script::claimed(blocks, held), None, 2, CALLS / 4);
         show(
             &format!("claims or drops {blocks} blocks behind {held}"),
             times,

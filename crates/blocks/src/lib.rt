@@ -149,12 +149,12 @@ fn claim_all(entries: &mut [u8], number: u8) -> u8
 }
 
 // Looks at one block after another, from a block on, up to a free one or to the map's end, and counts those that it looks at on from `before`.
-fn seek(map: &[u8], from: BlockNumber, before: usize) -> Sought
-    requires { ⌜ before ≤ from .0 ⌝ }
-    ensures { λ r. ⌜ (r .block .0 ≡ nthFrom free (from .0) 0 (now (map .entry))) × (r .looked ≡ before + lookedFor 1 (drop (from .0) (now (map .entry)))) ⌝ }
+fn seek(map: &[u8], first: BlockNumber, before: usize) -> Sought
+    requires { ⌜ before ≤ first .0 ⌝ }
+    ensures { λ r. ⌜ (r .block .0 ≡ nthFrom free (first .0) 0 (now (map .entry))) × (r .looked ≡ before + lookedFor 1 (drop (first .0) (now (map .entry)))) ⌝ }
 {
     let mut looked = before;
-    let mut block = from;
+    let mut block = first;
     while block.0 < map.len() {
         let i = block.0;
         looked = looked + 1;

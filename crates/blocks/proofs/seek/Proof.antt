@@ -43,7 +43,7 @@ seek-spec =
     (tie.spec
     Inv-loop
     μ-loop
-    (λ c. search needs)
+    (λ c. (refl, refl, omega arith))
     (λ c. omega arith)  -- looked + 1
     (λ c. search needs)  -- map[i]
     returns
