@@ -17,7 +17,8 @@ use Rattle.numbers.proofs.Choices.{same-or-not}
 use Rattle.blocks.specs.Map.{free, freeIn, claimed, lookedFor, nthNumber}
 use Rattle.blocks.proofs.Counts.{held-most, claim-taken, claim-held, claim-length}
 use Rattle.blocks.proofs.Turns.{stored-at, count-turn, count-end, claim-done, claim-end}
-use Rattle.blocks.proofs.Looks.{looked-none, looked-free, looked-held, looked-found, claim-found, none-found, claim-full, looked-part, claim-part, looked-all}
+use Rattle.blocks.proofs.Looks.{looked-none, looked-free, looked-held, looked-found, looked-part, looked-all}
+use Rattle.blocks.proofs.Looks.{claim-found, claim-part, claim-full, none-found}
 
 -- ---- every free one of some entries (`claim_all`)
 
@@ -54,19 +55,21 @@ taking-starts owner start =
     record { inside = omega arith; size = refl; few = omega arith; taken = rw all; counted = omega arith }
 
 module _ {owner : ℕ} {start map : List ℕ} {count at : ℕ} (k : TakingAll owner start map count at) where
-  pub taking-turn : {one entry : ℕ} → at < length map → one ≡ pick (eqb (getD map at 0) free) 1 0 → entry ≡ pick (eqb (getD map at 0) free) owner (getD map at 0)
+  pub taking-turn : {one entry : ℕ} → at < length map → one ≡ pick (eqb (getD map at 0) free) 1 0
+      → entry ≡ pick (eqb (getD map at 0) free) owner (getD map at 0)
       → TakingAll owner start (set map at entry) (count + one) (at + 1)
   taking-turn {one} {entry} h u v =
       let past : at < suc at = omega arith in
       let behind : drop (at + 1) (set map at entry) ≡ drop (at + 1) map = rw (add-one at) (drop-set-lt (suc at) map at entry past) in
-      let left : length start - (count + one) ≡ length start - count - one = omega arith in
+      let wanted : ℕ = length start - count in
+      let left : length start - (count + one) ≡ wanted - one = omega arith in
       record {
         inside = omega (arith, length-set map at entry);
         size = length-set map at entry ∙ k .size;
         few = omega (arith, k .few, bit-most (eqb (getD map at 0) free) u);
-        taken = rw left (stored-at (claimed owner (length start - count - one)) map at entry h
-            ∙ ap (λ (t : List ℕ). take at map ++ t) (claim-entry owner (length start - count) (getD map at 0) (drop (suc at) map) (omega (arith, k .few, k .size)) u v
-            ∙ ap (claimed owner (length start - count)) (sym (drop-cons map at 0 h)))
+        taken = rw left (stored-at (claimed owner (wanted - one)) map at entry h
+            ∙ ap (λ (t : List ℕ). take at map ++ t) (claim-entry owner wanted (getD map at 0) (drop (suc at) map) (omega (arith, k .few, k .size)) u v
+            ∙ ap (claimed owner wanted) (sym (drop-cons map at 0 h)))
             ∙ k .taken);
         counted = rw behind (omega (arith, k .counted, count-turn free map at h u));
       }
@@ -79,7 +82,9 @@ module _ {owner : ℕ} {start map : List ℕ} {count at : ℕ} (k : TakingAll ow
 -- at a place of the map: a free entry, a held one, the end
 module _ (map : List ℕ) (i : ℕ) where
   pub looked-here : i < length map → getD map i 0 ≡ free → lookedFor 1 (drop i map) ≡ 1
-  looked-here h e = rw (drop-cons map i 0 h) (omega (arith, looked-free 1 (getD map i 0) (drop (suc i) map) e (omega arith), looked-none 0 (drop (suc i) map) refl))
+  looked-here h e =
+      let behind : List ℕ = drop (suc i) map in
+      rw (drop-cons map i 0 h) (omega (arith, looked-free 1 (getD map i 0) behind e (omega arith), looked-none 0 behind refl))
 
   pub looked-past : i < length map → getD map i 0 ≢ free → lookedFor 1 (drop i map) ≡ 1 + lookedFor 1 (drop (i + 1) map)
   looked-past h e = rw (drop-cons map i 0 h, add-one i) (looked-held 1 (getD map i 0) (drop (suc i) map) e (omega arith))
@@ -102,8 +107,8 @@ module _ {owner total : ℕ} {whole map : List ℕ} {wanted looked at : ℕ} (k 
   claiming-done z = (omega (arith, k .seen, looked-none wanted (drop at map) z), sym (claim-done owner wanted map at z) ∙ k .taken)
 
   -- a search found a block, which is taken; the next one goes on behind it
-  pub claiming-found : {more next place : ℕ} → place ≡ at + nthNumber free 0 (drop at map) → more ≡ looked + lookedFor 1 (drop at map) → place < length map → 0 < wanted
-      → next ≡ place + 1 → Claiming owner whole total (set map place owner) (wanted - 1) more next
+  pub claiming-found : {more next place : ℕ} → place ≡ at + nthNumber free 0 (drop at map) → more ≡ looked + lookedFor 1 (drop at map)
+      → place < length map → 0 < wanted → next ≡ place + 1 → Claiming owner whole total (set map place owner) (wanted - 1) more next
   claiming-found {more} {next} {place} p m h some n =
       let rest : List ℕ = drop at map in
       let j : ℕ = nthNumber free 0 rest in
@@ -123,8 +128,8 @@ module _ {owner total : ℕ} {whole map : List ℕ} {wanted looked at : ℕ} (k 
       }
 
   -- a search found none
-  pub claiming-lost : {more place : ℕ} → place ≡ at + nthNumber free 0 (drop at map) → more ≡ looked + lookedFor 1 (drop at map) → length map ≤ place → 0 < wanted
-      → (more ≡ total) × (map ≡ whole)
+  pub claiming-lost : {more place : ℕ} → place ≡ at + nthNumber free 0 (drop at map) → more ≡ looked + lookedFor 1 (drop at map)
+      → length map ≤ place → 0 < wanted → (more ≡ total) × (map ≡ whole)
   claiming-lost p m h some =
       let rest : List ℕ = drop at map in
       let full : freeIn rest ≡ 0 = none-found rest (omega (arith, length-drop at map)) in
@@ -136,7 +141,8 @@ module _ {owner total : ℕ} {whole map : List ℕ} {wanted looked at : ℕ} (k 
 -- ---- some entries at once (`claim`)
 
 -- the next n entries, which were lent as a part of the map and came back with every free one taken
-module _ {owner total : ℕ} {whole map : List ℕ} {wanted looked at : ℕ} (k : Claiming owner whole total map wanted looked at) (n : ℕ) (h : at + n ≤ length map) {entries : List ℕ}
+module _ {owner total : ℕ} {whole map : List ℕ} {wanted looked at : ℕ} (k : Claiming owner whole total map wanted looked at)
+    (n : ℕ) (h : at + n ≤ length map) {entries : List ℕ}
     (e : entries ≡ claimed owner (length (take (at + n - at) (drop at map))) (take (at + n - at) (drop at map))) where
   abbrev part : List ℕ
   part = take n (drop at map)
@@ -180,11 +186,12 @@ module _ {owner total : ℕ} {whole map : List ℕ} {wanted looked at : ℕ} (k 
       → Claiming owner whole total (putMid at (at + n - at) map entries) (wanted - some) more next
   claiming-part {some} enough f m x =
       let got : some ≡ freeIn part = f ∙ rw lent in
+      let within : n ≤ length (drop at map) = omega (arith, length-drop at map) in
       record {
         inside = omega (arith, part-size);
         counted = omega (arith, k .counted);
         taken = rw (x, front, rest, got) (append-assoc (take at map) entries _
-            ∙ ap (λ (t : List ℕ). take at map ++ t) (rw entries-are (sym (claim-part owner n wanted n (drop at map) (omega (arith, length-drop at map)) (omega arith) enough)))
+            ∙ ap (λ (t : List ℕ). take at map ++ t) (rw entries-are (sym (claim-part owner n wanted n (drop at map) within (omega arith) enough)))
             ∙ k .taken);
-        seen = rw (x, rest, got) (omega (arith, k .seen, looked-part wanted n (drop at map) (omega (arith, length-drop at map)) enough));
+        seen = rw (x, rest, got) (omega (arith, k .seen, looked-part wanted n (drop at map) within enough));
       }

@@ -29,7 +29,7 @@ use Rattle.link.specs.Call.{After, opens, decisionOf, applied, callOf}
 use Rattle.link.specs.Book.{Seen, opening, within, nothing, Ask, first, askOf, seenIn, seenOf, isAccepted}
 use Rattle.link.specs.Claim.{State}
 use Rattle.link.specs.Pages.{Sane}
-use Rattle.link.specs.Search.{Shaped, Admitted, Searched, ownerFor, SearchCounts}
+use Rattle.link.specs.Search.{Shaped, Admitted, Searched, ownerFor, needFor, SearchCounts}
 use Rattle.link.proofs.Shown.{is-open}
 use Rattle.link.proofs.Table.{owner-some}
 use Rattle.link.proofs.Decisions.{Decided, refuses, claims, decided}
@@ -101,10 +101,14 @@ module _ (l : Link) (shape : Shaped l) (p s o : List ℕ) (g : Grant) where
         let k : Sane state = guard-sane l p g shape guard in
         let f : OpenFacts state (h .session .0) n = open-facts state (h .session .0) k (is-open state (h .session .0) found) in
         let none : heldBy (ownerFor l h) (l .owners) ≡ 0 = f .room place (place-below (h .service .0)) ∙ held-idle _ idle in
+        let need : ℕ = needFor s e in
         record {
           chosen = refl;
-          counted = looked-highest (ownerFor l h) _ (l .owners) (owner-some n place) none (need-some _ (totals-range _ _ fit .some-bytes))
-              (claim-room state (h .session .0) n k f _ w);
+          counted = omega (
+            arith,
+            looked-highest (ownerFor l h) need (l .owners) (owner-some n place) none (need-some _ (totals-range _ _ fit .some-bytes))
+                (claim-room state (h .session .0) n k f need w),
+          );
         }
 
     -- which is what is decided on

@@ -1,5 +1,6 @@
 -- Document 02's A3, through the link: "the search counts the blocks it looks at, proved for an admitted First Frame to be its highest block's number, from 0,
--- plus 1." For every link that code can hand in, whatever it holds: where a state rule is broken, a call answers 10 and admits nothing. Proved in proofs/Search.
+-- plus 1." For every link that code can hand in, whatever it holds: where a state rule is broken, a call answers 10 and admits nothing. Proved in
+-- proofs/Search.
 -- Assumes nothing.
 use Prim.Native.Nat.{ℕ, suc, _-_, _≤_, _<_}
 use mathlib.Core.Path.{_≡_}

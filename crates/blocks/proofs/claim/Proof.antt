@@ -31,9 +31,10 @@ fewer c =
 loop-again : tie.Need-loop-again Inv-loop μ-loop
 loop-again c =
     let taken = (c .before .before .before) in
-    let l = (taken .before .before .before .before .before .loop) in (
+    let l = (taken .before .before .before .before .before .loop) in
+    let some = c .wide .ensures ∙ taken .claim-all .ensures .0 in (
       part-size (l .inv .1) 16 (omega arith) (taken .claim-all .ensures .1) ∙ l .inv .0,
-      claiming-part (l .inv .1) 16 (omega arith) (taken .claim-all .ensures .1) (omega arith) (c .wide .ensures ∙ taken .claim-all .ensures .0) (omega arith) (omega arith),
+      claiming-part (l .inv .1) 16 (omega arith) (taken .claim-all .ensures .1) (omega arith) some (omega arith) (omega arith),
     )
 
 returns : tie.Need-returns Inv-loop μ-loop

@@ -14,7 +14,8 @@ use Rattle.blocks.proofs.claim_singly.Tie as tie
 abbrev Inv-loop : tie.InvT-loop
 Inv-loop map₀ count number before wanted₀ looked₀ from₀ map wanted looked from =
     (length map ≡ length map₀)
-    × Claiming number (take (from₀ .0) map₀ ++ claimed number count (drop (from₀ .0) map₀)) (before + lookedFor count (drop (from₀ .0) map₀)) map wanted looked (from .0)
+    × Claiming number (take (from₀ .0) map₀ ++ claimed number count (drop (from₀ .0) map₀)) (before + lookedFor count (drop (from₀ .0) map₀))
+    map wanted looked (from .0)
 
 abbrev μ-loop : tie.MeasureT-loop
 μ-loop map₀ count number before wanted₀ looked₀ from₀ map wanted looked from = wanted
@@ -32,7 +33,8 @@ loop-again : tie.Need-loop-again Inv-loop μ-loop
 loop-again c =
     let searched = (c .before) in (
       simp length-set (omega arith),
-      claiming-found (searched .before .before .before .loop .inv .1) (searched .seek .ensures .0) (searched .seek .ensures .1) (omega arith) (omega arith) (omega arith),
+      claiming-found (searched .before .before .before .loop .inv .1) (omega (arith, searched .seek .ensures .0)) (omega (arith, searched .seek .ensures .1))
+          (omega arith) (omega arith) (omega arith),
     )
 
 returns-2 : tie.Need-returns-2 Inv-loop μ-loop

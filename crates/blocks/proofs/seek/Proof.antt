@@ -13,7 +13,9 @@ use Rattle.blocks.proofs.seek.Tie as tie
 
 abbrev Inv-loop : tie.InvT-loop
 Inv-loop map before looked₀ block₀ looked block =
-    (nthFrom free (block .0) 0 map ≡ nthFrom free (block₀ .0) 0 map) × (looked + lookedFor 1 (drop (block .0) map) ≡ before + lookedFor 1 (drop (block₀ .0) map)) × (looked ≤ block .0)
+    (nthFrom free (block .0) 0 map ≡ nthFrom free (block₀ .0) 0 map)
+    × (looked + lookedFor 1 (drop (block .0) map) ≡ before + lookedFor 1 (drop (block₀ .0) map))
+    × (looked ≤ block .0)
 
 abbrev μ-loop : tie.MeasureT-loop
 μ-loop map before looked₀ block₀ looked block = length map - block .0
@@ -22,13 +24,15 @@ returns : tie.Need-returns Inv-loop μ-loop
 returns c =
     let l = (c .before .before .before .before .loop) in
     let map = (c .before .before .before .before .before .args .map .now) in
-    (omega (arith, find-here free 0 map (l .block .0) (omega arith) (c .if2 .taken) refl), omega (arith, looked-here map (l .block .0) (omega arith) (c .if2 .taken)))
+    let at = (l .block .0) in
+    (omega (arith, find-here free 0 map at (omega arith) (c .if2 .taken) refl), omega (arith, looked-here map at (omega arith) (c .if2 .taken)))
 
 loop-again : tie.Need-loop-again Inv-loop μ-loop
 loop-again c =
     let l = (c .before .before .before .before .loop) in
     let map = (c .before .before .before .before .before .args .map .now) in
-    (omega (arith, find-not free 0 map (l .block .0) (omega arith) (c .if2 .left)), omega (arith, looked-past map (l .block .0) (omega arith) (c .if2 .left)), omega arith)
+    let at = (l .block .0) in
+    (omega (arith, find-not free 0 map at (omega arith) (c .if2 .left)), omega (arith, looked-past map at (omega arith) (c .if2 .left)), omega arith)
 
 returns-2 : tie.Need-returns-2 Inv-loop μ-loop
 returns-2 c =
