@@ -1,5 +1,6 @@
 // The reassembly room behind C functions: the way in for the comparison with an independent room and for its benchmark.
-// It holds no rule: each function calls its namesake of `blocks` on lent bytes. A map that is not 256 bytes long is left as it is.
+// It holds no rule: each function calls its namesake of `blocks` on lent bytes. A map of any length will do, but `release` leaves one that has not 256 bytes
+// as it is.
 ghost use mathlib.Core.Path.{_≡_};
 ghost use mathlib.Core.List.{List};
 ghost use lib.Dec.{eqb, ltb};
