@@ -136,7 +136,7 @@ fn first_frames(pace: &Path) {
     for (blocks, held) in [(1, 0), (16, 0), (256, 0), (1, 128), (16, 128), (128, 128)] {
         let times = each(pace, &script::claimed(blocks, held), None, 2, CALLS / 4);
         show(
-            &format!("claims or drops {blocks} blocks behind {held}"),
+            &format!("claims blocks, or drops them ({blocks}, behind {held} held)"),
             times,
         );
     }
