@@ -9,7 +9,7 @@ use native.Mathlib.Numerals.{add-one}
 use native.Mathlib.Omega.{arith}
 use lib.Dec.{eqb, leb}
 use lib.ListN.{length, take, drop, getD, set, drop-of-length-le, take-append-drop, length-drop}
-use lib.Seq.{drop-cons, take-suc, take-suc-set, drop-set-lt, append-snoc, take-all, drop-drop, getD-drop}
+use lib.Seq.{drop-cons, take-suc-set, drop-set-lt, append-snoc, take-all, drop-drop, getD-drop}
 use Rattle.numbers.specs.Bytes.{pick}
 use Rattle.numbers.proofs.Slices.{rest-lent}
 use Rattle.blocks.specs.Map.{free, heldBy, claimed, released, nthNumber}

@@ -8,7 +8,7 @@ use mathlib.Core.List.{List}
 use native.Mathlib.Omega.{arith}
 use lib.Dec.{T, eqb, ltb}
 use lib.ListN.{length}
-use borrow.Author.Tests.{eqb-true, eq-eqb, ne-eqb}
+use borrow.Author.Tests.{eqb-true, ne-eqb}
 use Rattle.numbers.specs.Bytes.{part}
 use Rattle.numbers.specs.Numbers.{valueBe}
 use Rattle.numbers.proofs.Choices.{and-both}
@@ -24,12 +24,12 @@ use Rattle.session.specs.declared.Act.{Act}
 use Rattle.session.specs.Decide.{placeOf, needOf}
 use Rattle.link.specs.declared.Link.{Link}
 use Rattle.link.specs.declared.Grant.{Grant}
-use Rattle.link.specs.State.{indexOf, ownerOf, settingsFit, grantFits, rulesHold, guardOf}
-use Rattle.link.specs.Call.{After, opens, decisionOf, applied, callOf}
-use Rattle.link.specs.Book.{Seen, opening, within, nothing, Ask, first, askOf, seenIn, seenOf, isAccepted}
+use Rattle.link.specs.State.{indexOf, settingsFit, grantFits, rulesHold, guardOf}
+use Rattle.link.specs.Call.{After, opens, decisionOf, applied}
+use Rattle.link.specs.Book.{Seen, opening, within, nothing, Ask, first, askOf, seenOf, isAccepted}
 use Rattle.link.specs.Claim.{State}
 use Rattle.link.specs.Pages.{Sane}
-use Rattle.link.specs.Search.{Shaped, Admitted, Searched, ownerFor, needFor, SearchCounts}
+use Rattle.link.specs.Search.{Shaped, Searched, ownerFor, needFor, SearchCounts}
 use Rattle.link.proofs.Shown.{is-open}
 use Rattle.link.proofs.Table.{owner-some}
 use Rattle.link.proofs.Decisions.{Decided, refuses, claims, decided}
@@ -97,7 +97,7 @@ module _ (l : Link) (shape : Shaped l) (p s o : List ℕ) (g : Grant) where
 
     first-searched : {act : Act} → Decided l n h payload ask act → T (isAccepted (leaves act .answer)) → Searched l s h e (leaves act)
     first-searched (refuses b) t = absurd t
-    first-searched (claims q d fit idle cap w) t =
+    first-searched (claims q d fit idle within-cap w) t =
         let k : Sane state = guard-sane l p g shape guard in
         let f : OpenFacts state (h .session .0) n = open-facts state (h .session .0) k (is-open state (h .session .0) found) in
         let none : heldBy (ownerFor l h) (l .owners) ≡ 0 = f .room place (place-below (h .service .0)) ∙ held-idle _ idle in

@@ -2,11 +2,10 @@
 // It holds no rule: each function calls its namesake of `blocks` on lent bytes. A map of any length will do, but `release` leaves one that has not 256 bytes
 // as it is.
 ghost use mathlib.Core.Path.{_≡_};
-ghost use mathlib.Core.List.{List};
-ghost use lib.Dec.{eqb, ltb};
+ghost use lib.Dec.{eqb};
 ghost use lib.ListN.{length};
 ghost use Rattle.numbers.specs.Bytes.{pick};
-ghost use Rattle.blocks.specs.Map.{neededFor, heldBy, claimed, lookedFor, released, nthNumber};
+ghost use Rattle.blocks.specs.Map.{neededFor, heldBy, claimed, lookedFor, released};
 ghost use Rattle.blocks.specs.Pool.{appended, delivered};
 ghost use Rattle.room.specs.Room.{ifWhole, placeIn};
 use blocks::Found;

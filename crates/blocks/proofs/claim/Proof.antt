@@ -3,7 +3,7 @@
 use Prim.Native.Nat.{_-_}
 use mathlib.Core.Path.{_≡_, refl, _∙_}
 use native.Mathlib.Omega.{arith}
-use lib.ListN.{length, take, drop}
+use lib.ListN.{length}
 use Rattle.blocks.specs.Map.{claimed, lookedFor}
 use Rattle.blocks.proofs.Search.{Claiming, part-size, part-some, claiming-part}
 use borrow.Author.Needs.{needs}

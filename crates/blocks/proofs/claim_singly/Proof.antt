@@ -1,7 +1,7 @@
 -- `blocks::claim_singly` meets its contract. The loop's invariant is `Claiming`; each search that finds a block is a turn, and each end is a law.
 -- Assumes nothing.
 use Prim.Native.Nat.{_+_}
-use mathlib.Core.Path.{_≡_, refl, _∙_}
+use mathlib.Core.Path.{_≡_, refl}
 use mathlib.Core.List.{_++_}
 use native.Mathlib.Omega.{arith}
 use lib.ListN.{length, take, drop, length-set}
