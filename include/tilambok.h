@@ -1,17 +1,18 @@
 /*
- * tilambok.h - the frame reader and the frame writers, and the reader and the writer of RPC payloads, for C99 and C++.
+ * tilambok.h - frames, the message sender and RPC payloads of the SmartDeviceLink protocol, for C99 and C++.
  *
- * The functions are written in Rattle (crates/capture and crates/smoke) and proved: for all inputs the result and every
- * lent byte are what specs/Capture.antt and specs/Smoke.antt say, no byte outside the lent ones is read or written, and
- * every call ends. This file says the same in words; it is written by hand and is no part of the proof. Link with
- * libcapture.a (`rt staticlib capture`) for frames and libsmoke.a (`rt staticlib smoke`) for RPC payloads, or with both.
+ * The functions are written in Rattle (crates/tilambok) and proved: for all inputs the status, the value and every lent
+ * byte are what crates/tilambok/specs says, no byte outside the lent ones is read or written, and every call ends. This
+ * file says the same in words; it is written by hand and is no part of the proof. Link with libtilambok.a
+ * (`rt staticlib tilambok`).
  *
  * What the caller owes, since no check can see it:
  *   - A pointer and the length behind it describe bytes that the caller may read (a `const` pointer) or write (the others)
  *     for the whole call. A length is at most SIZE_MAX / 2, as that of any object is.
+ *   - `value` points to a uint32_t that the caller may write.
  *   - No pointer is null, not even where its length is 0: then any pointer that is not null will do.
- *   - The buffers of one call do not overlap, and no other thread writes to any of them, or reads `fields` or `out`,
- *     before the call returns.
+ *   - What is lent to one call does not overlap, `value` included, and no other thread writes to any of it, or reads
+ *     `fields`, `out` or `value`, before the call returns.
  * Nothing else: any bytes, any numbers and any lengths are answered. The functions keep no state, allocate nothing and
  * may be called from several threads at once.
  */
@@ -26,29 +27,21 @@ extern "C" {
 #endif
 
 /*
- * A result holds a class in its upper 32 bits and the value that goes with it in its lower 32 bits.
+ * Every function returns a status. What else there is to tell, how many bytes for instance, goes to `*value`.
  *
- *   class                value
- *   TILAMBOK_DONE        frame reader: bytes consumed, header and payload; frame writers: bytes written;
- *                        RPC payloads: see each function
- *   TILAMBOK_REFUSED     one of the numbers below
- *   TILAMBOK_SHORT       frame reader only: how many bytes are needed in all, those that are there included
+ *   status               *value
+ *   TILAMBOK_DONE        what the function says below
+ *   TILAMBOK_SHORT       tilambok_read_frame only: how many bytes are needed in all, those that are there included
+ *   any other            left as it was: the call was refused, and the status is one of the numbers below
+ *
+ * A status is at most 128. Cut to an `int` or to one byte it is the same number, so it is 0 only where the call is done.
+ * A refused call and TILAMBOK_SHORT change no lent byte.
  */
 #define TILAMBOK_DONE 0
-#define TILAMBOK_REFUSED 1
-#define TILAMBOK_SHORT 2
-
-static inline uint32_t tilambok_class(uint64_t result) {
-    return (uint32_t)(result >> 32);
-}
-
-static inline uint32_t tilambok_value(uint64_t result) {
-    return (uint32_t)(result & 0xFFFFFFFFu);
-}
+#define TILAMBOK_SHORT 128
 
 /*
- * Why a call was refused. Where several apply, the lowest of 1 to 6 is given, and 11 only where none of them applies; those
- * of RPC payloads stand further below. A refused call writes nothing.
+ * Why a call was refused. Where several apply, the first in the function's own order is given.
  *
  *   no  given exactly when
  *    1  the version is 0 or above 5
@@ -56,9 +49,17 @@ static inline uint32_t tilambok_value(uint64_t result) {
  *    3  the service type is none of 00, 07, 0A, 0B, 0F (hexadecimal)
  *    4  a control frame's info is none of 00 to 09, FD, FE, FF (hexadecimal)
  *    5  the flag is set in version 1 or on a First Frame
- *    6  the data size is not 8 in a First Frame, is 0 in a consecutive frame, or is above the version's largest:
- *       1,488 in versions 1 and 2, 131,072 in 3 to 5; tilambok_write_frame: also where it is not the payload's length
- *   11  the buffer that is to be written, `fields` or `out`, is too small
+ *    6  the data size is not 8 in a First Frame, is 0 in a consecutive frame, or is above the version's largest;
+ *       tilambok_write_frame: also where it is not the payload's length
+ *   10  settings out of range: the sender's chunk is 0 or above the version's largest; a payload's form is none of the three
+ *   11  the buffer that is to be written, `fields` or `out`, is too small for the bytes due
+ *   18  the sender's message has more bytes than TILAMBOK_LARGEST_TOTAL, and more than one chunk
+ *   26  the sender's k is past the last frame
+ *   40  reader: the payload has under 12 bytes
+ *   41  the type is above 2; in a query: is none of 00, 10, 20, FF (hexadecimal)
+ *   42  a query's id is none of 1, 2, FFFFFF (hexadecimal); writer: also a function id of more than 28 bits
+ *   43  reader: the JSON size is past the payload's end; writer: it is not json_length
+ *   44  reader: bytes follow the JSON in the RPC form; writer: bulk_length is not 0 in the RPC form
  */
 #define TILAMBOK_BAD_VERSION 1
 #define TILAMBOK_BAD_FRAME_TYPE 2
@@ -66,20 +67,31 @@ static inline uint32_t tilambok_value(uint64_t result) {
 #define TILAMBOK_BAD_CONTROL_INFO 4
 #define TILAMBOK_BAD_FLAG 5
 #define TILAMBOK_BAD_SIZE 6
+#define TILAMBOK_BAD_SETTINGS 10
 #define TILAMBOK_TOO_SMALL 11
+#define TILAMBOK_BAD_TOTALS 18
+#define TILAMBOK_NO_SUCH_FRAME 26
+#define TILAMBOK_RPC_TOO_SHORT 40
+#define TILAMBOK_RPC_BAD_TYPE 41
+#define TILAMBOK_RPC_BAD_ID 42
+#define TILAMBOK_RPC_BAD_JSON_SIZE 43
+#define TILAMBOK_RPC_BULK 44
+
+/* ---- frames ---- */
+
+/* Sizes in bytes. A header has the first size in version 1 and the second in versions 2 to 5. */
+#define TILAMBOK_HEADER_1 8
+#define TILAMBOK_HEADER 12
+#define TILAMBOK_LARGEST_DATA_1 1488   /* the largest data size in versions 1 and 2 */
+#define TILAMBOK_LARGEST_DATA 131072   /* and in versions 3 to 5 */
+#define TILAMBOK_LARGEST_FRAME 131084  /* header and data: an `out` of so many bytes is never too small for a frame */
+#define TILAMBOK_LARGEST_TOTAL 65536   /* the largest message in several frames */
 
 /* Frame types. */
 #define TILAMBOK_CONTROL 0
 #define TILAMBOK_SINGLE 1
 #define TILAMBOK_FIRST 2
 #define TILAMBOK_CONSECUTIVE 3
-
-/*
- * A message in several frames: a First Frame, whose payload is two numbers of 4 bytes, most significant first, and the
- * consecutive frames that it announces. The first number is the message's bytes, 1 to 65,536; the second is how many
- * consecutive frames follow, 1 to as many as there are bytes. The k-th of them has frame info 1 + (k - 1) % 255, so that
- * the number after 255 is 1 again; the last one has 0. The functions below know frames alone: any info is read and written.
- */
 
 /*
  * The fields of a frame that was read: TILAMBOK_FIELDS bytes, each of these at its place. The data size and the message id
@@ -107,41 +119,63 @@ static inline uint32_t tilambok_field_u32(const uint8_t *field) {
  *
  *   TILAMBOK_SHORT    fewer than 8 bytes are there: the value is 8; or the header, whose first 8 bytes have no fault,
  *                     and its payload are not all there: the value is header size plus data size.
- *   TILAMBOK_REFUSED  1 to 6: the first 8 bytes have that fault, whether or not more are there;
- *                     11: a whole frame is there, and fields_length is below TILAMBOK_FIELDS.
+ *   1 to 6            the first 8 bytes have that fault, whether or not more are there; the lowest number is given.
+ *   11                a whole frame is there, and fields_length is below TILAMBOK_FIELDS.
  *   TILAMBOK_DONE     the first TILAMBOK_FIELDS bytes of `fields` say what the frame is. Its payload is `bytes` from
- *                     fields[TILAMBOK_AT_PAYLOAD_START] on, as long as the data size says; the value is where it ends.
+ *                     fields[TILAMBOK_AT_PAYLOAD_START] on, as long as the data size says; the value is where it ends:
+ *                     the bytes consumed.
  *
- * `bytes` is only read. `fields` past its first TILAMBOK_FIELDS bytes is left as it is, and all of it where the class is
- * not TILAMBOK_DONE.
+ * `bytes` is only read. `fields` past its first TILAMBOK_FIELDS bytes is left as it is.
  */
-uint64_t tilambok_read_frame(const uint8_t *bytes, size_t bytes_length, uint8_t *fields, size_t fields_length);
+uint32_t tilambok_read_frame(const uint8_t *bytes, size_t bytes_length, uint8_t *fields, size_t fields_length,
+                             uint32_t *value);
 
 /*
  * Writes a frame's header alone to the front of `out`: 8 bytes in version 1, else 12. `flag` is clear where it is 0 and
- * set where it is anything else. In version 1 `message` is not looked at: the header has no message id.
+ * set where it is anything else. In version 1 `message_id` is not looked at: the header has none.
  *
- *   TILAMBOK_REFUSED  1 to 6: the header has that fault; 11: out_length is below the header's size.
+ *   1 to 6            the header has that fault; the lowest number is given.
+ *   11                out_length is below the header's size.
  *   TILAMBOK_DONE     the value is the header's size.
  *
- * `out` past the bytes written is left as it is, and all of it where the call is refused.
+ * `out` past the bytes written is left as it is.
  */
-uint64_t tilambok_write_header(uint8_t version, uint8_t flag, uint8_t frame_type, uint8_t service_type, uint8_t frame_info,
+uint32_t tilambok_write_header(uint8_t version, uint8_t flag, uint8_t frame_type, uint8_t service_type, uint8_t frame_info,
                                uint8_t session_id, uint32_t data_size, uint32_t message_id, uint8_t *out,
-                               size_t out_length);
+                               size_t out_length, uint32_t *value);
 
 /*
  * Writes a frame, header and payload, to the front of `out`. The header's numbers are as in tilambok_write_header.
  *
- *   TILAMBOK_REFUSED  1 to 6: the header has that fault; 6 also where data_size is not payload_length;
- *                     11: out_length is below header size plus payload_length.
+ *   1 to 6            the header has that fault; 6 also where data_size is not payload_length.
+ *   11                out_length is below header size plus payload_length.
  *   TILAMBOK_DONE     the value is header size plus payload_length.
  *
- * `payload` is only read. `out` past the bytes written is left as it is, and all of it where the call is refused.
+ * `payload` is only read. `out` past the bytes written is left as it is.
  */
-uint64_t tilambok_write_frame(uint8_t version, uint8_t flag, uint8_t frame_type, uint8_t service_type, uint8_t frame_info,
+uint32_t tilambok_write_frame(uint8_t version, uint8_t flag, uint8_t frame_type, uint8_t service_type, uint8_t frame_info,
                               uint8_t session_id, uint32_t data_size, uint32_t message_id, const uint8_t *payload,
-                              size_t payload_length, uint8_t *out, size_t out_length);
+                              size_t payload_length, uint8_t *out, size_t out_length, uint32_t *value);
+
+/* ---- messages: what a phone sends ---- */
+
+/*
+ * Writes the k-th frame of a message, counted from 0, to the front of `out`. `chunk` is the largest payload of one frame.
+ * A message that fits one chunk is a single frame, at k = 0. Any other is a First Frame at 0, whose payload is two numbers
+ * of 4 bytes, most significant first: the message's bytes, and how many consecutive frames follow, length over chunk
+ * rounded up. Frames 1 to that count carry the chunks; the k-th has frame info 1 + (k - 1) % 255, so that the number after
+ * 255 is 1 again, and the last one has 0. No flag is set. In version 1 `message_id` is not looked at.
+ *
+ *   1, 3, 10, 18, 26  in this order: the version, the service type, the chunk, the message's length, k.
+ *   11                out_length is below the frame's bytes.
+ *   TILAMBOK_DONE     the value is how many bytes the frame has.
+ *
+ * So a whole message goes out by asking for k = 0, 1, 2 .. until the status is not TILAMBOK_DONE: all is sent where it is
+ * TILAMBOK_NO_SUCH_FRAME. `message` is only read. `out` past the bytes written is left as it is.
+ */
+uint32_t tilambok_send(uint8_t version, uint8_t service_type, uint8_t session_id, uint32_t message_id, uint32_t chunk,
+                       uint32_t k, const uint8_t *message, size_t message_length, uint8_t *out, size_t out_length,
+                       uint32_t *value);
 
 /* ---- RPC payloads: what is inside joined messages ---- */
 
@@ -150,27 +184,8 @@ uint64_t tilambok_write_frame(uint8_t version, uint8_t flag, uint8_t frame_type,
 #define TILAMBOK_BULK 1   /* header, JSON and bulk data, on service 0F */
 #define TILAMBOK_QUERY 2  /* the security query: header, JSON and binary data, on service 00 */
 
-/*
- * Why a call on a payload was refused. Where several apply, the first in this order is given: 10, 1, 40 to 44, 11.
- *
- *   no  given exactly when
- *   10  the form is none of the three
- *    1  the version is 0 or above 5
- *   40  reader: the payload has under 12 bytes
- *   41  the type is above 2; in a query: is none of 00, 10, 20, FF (hexadecimal)
- *   42  a query's id is none of 1, 2, FFFFFF (hexadecimal); writer: also a function id of more than 28 bits
- *   43  reader: the JSON size is past the payload's end; writer: it is not json_length
- *   44  reader: bytes follow the JSON in the RPC form; writer: bulk_length is not 0 in the RPC form
- *   11  the buffer that is to be written, `fields` or `out`, is too small
- *
- * At version 1 the RPC form, and it alone, has no header: 40 to 43 are not given, and 44 by the writer alone.
- */
-#define TILAMBOK_NO_FORM 10
-#define TILAMBOK_RPC_TOO_SHORT 40
-#define TILAMBOK_RPC_BAD_TYPE 41
-#define TILAMBOK_RPC_BAD_ID 42
-#define TILAMBOK_RPC_BAD_JSON_SIZE 43
-#define TILAMBOK_RPC_BULK 44
+/* The bytes of a payload's header. At version 1 the RPC form, and it alone, has none. */
+#define TILAMBOK_RPC_HEADER 12
 
 /*
  * The fields of a payload that was read: TILAMBOK_RPC_FIELDS bytes, each of these at its place. The last three are 4 bytes
@@ -188,40 +203,40 @@ uint64_t tilambok_write_frame(uint8_t version, uint8_t flag, uint8_t frame_type,
 /*
  * The form of the messages that come on a service.
  *
- *   TILAMBOK_REFUSED  10: none; audio and video carry no such payload, and other numbers are no service.
+ *   10                none; audio and video carry no such payload, and other numbers are no service.
  *   TILAMBOK_DONE     the value is the form.
  */
-uint64_t tilambok_rpc_form(uint8_t service_type);
+uint32_t tilambok_rpc_form(uint8_t service_type, uint32_t *value);
 
 /*
- * Reads a payload: the bytes of a whole message, as the link delivers them, with its session's version. JSON is not
- * looked into.
+ * Reads a payload: the bytes of a whole message, with its session's version. JSON is not looked into.
  *
- *   TILAMBOK_REFUSED  10, 1, 40 to 44; 11: the payload has no fault, and fields_length is below TILAMBOK_RPC_FIELDS.
+ *   10, 1, 40 to 44   in this order. In the RPC form at version 1 40 to 44 are not given.
+ *   11                the payload has no fault, and fields_length is below TILAMBOK_RPC_FIELDS.
  *   TILAMBOK_DONE     the first TILAMBOK_RPC_FIELDS bytes of `fields` say what the payload is, and the value is where the
  *                     JSON begins. With a header the JSON is as long as the JSON size says, and what follows it, to the
  *                     payload's end, is bulk data (in a query, binary data). Without one all of the payload is JSON.
  *
- * `payload` is only read. `fields` past its first TILAMBOK_RPC_FIELDS bytes is left as it is, and all of it where the call
- * is refused.
+ * `payload` is only read. `fields` past its first TILAMBOK_RPC_FIELDS bytes is left as it is.
  */
-uint64_t tilambok_read_rpc(uint8_t form, uint8_t version, const uint8_t *payload, size_t payload_length, uint8_t *fields,
-                           size_t fields_length);
+uint32_t tilambok_read_rpc(uint8_t form, uint8_t version, const uint8_t *payload, size_t payload_length, uint8_t *fields,
+                           size_t fields_length, uint32_t *value);
 
 /*
  * Writes a payload, header, JSON and bulk data, to the front of `out`. `id` is the function id, in a query its id; `number`
  * the correlation id, in a query the sequence number. In the RPC form at version 1 the JSON is written alone, and type, id,
  * number and json_size are not looked at.
  *
- *   TILAMBOK_REFUSED  10, 1, 41 to 44; 11: out_length is below what is to be written.
+ *   10, 1, 41 to 44   in this order. In the RPC form at version 1 41 to 43 are not given.
+ *   11                out_length is below what is to be written.
  *   TILAMBOK_DONE     the value is where the JSON begins in `out`, 12 or 0, and that many bytes plus json_length plus
  *                     bulk_length were written. (Their sum may need more than 32 bits.)
  *
- * `json` and `bulk` are only read. `out` past the bytes written is left as it is, and all of it where the call is refused.
+ * `json` and `bulk` are only read. `out` past the bytes written is left as it is.
  */
-uint64_t tilambok_write_rpc(uint8_t form, uint8_t version, uint8_t type, uint32_t id, uint32_t number, uint32_t json_size,
+uint32_t tilambok_write_rpc(uint8_t form, uint8_t version, uint8_t type, uint32_t id, uint32_t number, uint32_t json_size,
                             const uint8_t *json, size_t json_length, const uint8_t *bulk, size_t bulk_length, uint8_t *out,
-                            size_t out_length);
+                            size_t out_length, uint32_t *value);
 
 #ifdef __cplusplus
 }

@@ -7,6 +7,6 @@ fn main() {
     let package = env::var("CARGO_MANIFEST_DIR").expect("set by cargo");
     let folder = format!("{package}/../../target/staticlib");
     println!("cargo:rustc-link-search=native={folder}");
-    println!("cargo:rustc-link-lib=static=capture");
-    println!("cargo:rerun-if-changed={folder}/libcapture.a");
+    println!("cargo:rustc-link-lib=static=tilambok");
+    println!("cargo:rerun-if-changed={folder}/libtilambok.a");
 }

@@ -10,7 +10,7 @@ mod script;
 
 use reference::link::version::ProtocolVersion;
 use reference::link::{rules, Answer, Link, Offer, Settings};
-use script::Script;
+use script::{Load, Script};
 use std::hint::black_box;
 use std::io::Read;
 use std::path::{Path, PathBuf};
@@ -117,9 +117,31 @@ fn show(what: &str, [proved, plain, with_rules]: [f64; 3]) {
     );
 }
 
+/// Small calls, on a link with one session and with eight, without and with a message open in each.
+fn small_calls(pace: &Path) {
+    for load in [(1, false), (1, true), (8, false), (8, true)]
+        .map(|(sessions, open)| Load { sessions, open })
+    {
+        let on = format!(
+            "{} open, {} message each",
+            load.sessions,
+            if load.open { "a" } else { "no" }
+        );
+        for (what, script) in [
+            ("refuses", script::refusal(load)),
+            ("replies", script::reply(load)),
+            ("delivers a Single Frame of 64 bytes", script::single(load)),
+        ] {
+            show(
+                &format!("{what} (sessions: {on})"),
+                each(pace, &script, None, 1, CALLS),
+            );
+        }
+    }
+}
+
 fn calls(pace: &Path) {
-    show("refuses", each(pace, &script::refusal(), None, 1, CALLS));
-    show("replies", each(pace, &script::reply(), None, 1, CALLS));
+    small_calls(pace);
     let appended = script::APPENDED;
     let longer = script::dropped(appended);
     let shorter = script::dropped(0);

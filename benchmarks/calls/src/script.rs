@@ -72,19 +72,44 @@ fn opening() -> Vec<u8> {
     written(1, 0, 0x07, 0x01, 0, &payload)
 }
 
+/// So many sessions, each with a message open or none.
+#[derive(Clone, Copy)]
+pub struct Load {
+    pub sessions: u8,
+    pub open: bool,
+}
+
+impl Load {
+    fn frames(self) -> Vec<Vec<u8>> {
+        let mut frames = vec![opening(); usize::from(self.sessions)];
+        if self.open {
+            frames.extend((1..=self.sessions).map(|session| announced(session, BLOCK, 1)));
+        }
+        frames
+    }
+}
+
 /// 12: a session that is not open.
-pub fn refusal() -> Script {
+pub fn refusal(load: Load) -> Script {
     Script {
-        first: vec![opening()],
+        first: load.frames(),
         again: vec![written(5, 1, 0x07, 0, 9, &[])],
     }
 }
 
 /// A Heartbeat.
-pub fn reply() -> Script {
+pub fn reply(load: Load) -> Script {
     Script {
-        first: vec![opening()],
+        first: load.frames(),
         again: vec![written(5, 0, 0x00, 0x00, 1, &[])],
+    }
+}
+
+/// A Single Frame of 64 bytes.
+pub fn single(load: Load) -> Script {
+    Script {
+        first: load.frames(),
+        again: vec![written(5, 1, 0x07, 0, 1, &[0x5a; 64])],
     }
 }
 

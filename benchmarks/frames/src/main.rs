@@ -8,13 +8,15 @@ use std::time::Instant;
 /// Frame sizes of the benchmark: header alone, a small network packet, the largest frame.
 const FRAME_SIZES: [usize; 3] = [12, 1_500, 131_084];
 const HEADER: usize = 12;
+/// The status of a call that was not refused.
+const DONE: u32 = 0;
 /// The same work is timed so often, and the least time counts.
 const ROUNDS: usize = 15;
 const BYTES_A_ROUND: usize = 64 << 20;
 const MOST_CALLS: usize = 2_000_000;
 
 extern "C" {
-    fn tilambok_read_frame(bytes: *const u8, length: usize, fields: *mut u8, fields_length: usize) -> u64;
+    fn tilambok_read_frame(bytes: *const u8, length: usize, fields: *mut u8, fields_length: usize, value: *mut u32) -> u32;
     #[allow(clippy::too_many_arguments)]
     fn tilambok_write_frame(
         version: u8,
@@ -29,7 +31,8 @@ extern "C" {
         payload_length: usize,
         out: *mut u8,
         out_length: usize,
-    ) -> u64;
+        value: *mut u32,
+    ) -> u32;
 }
 
 /// Some frames of one size, one behind the other, enough of them that a branch predictor does not learn a single one.
@@ -74,13 +77,13 @@ fn write_reference(header: &Header, payload: &[u8], out: &mut [u8]) -> usize {
     frame::write(header, payload, out).unwrap_or(0)
 }
 
-fn read_proved(bytes: &[u8], fields: &mut [u8; 16]) -> u64 {
-    // SAFETY: both pointers are valid for their lengths and do not overlap.
-    unsafe { tilambok_read_frame(bytes.as_ptr(), bytes.len(), fields.as_mut_ptr(), fields.len()) }
+fn read_proved(bytes: &[u8], fields: &mut [u8; 16], value: &mut u32) -> u32 {
+    // SAFETY: the pointers are valid for their lengths and do not overlap.
+    unsafe { tilambok_read_frame(bytes.as_ptr(), bytes.len(), fields.as_mut_ptr(), fields.len(), value) }
 }
 
-fn write_proved(h: &Header, payload: &[u8], out: &mut [u8]) -> u64 {
-    // SAFETY: both pointers are valid for their lengths and do not overlap.
+fn write_proved(h: &Header, payload: &[u8], out: &mut [u8], value: &mut u32) -> u32 {
+    // SAFETY: the pointers are valid for their lengths and do not overlap.
     unsafe {
         tilambok_write_frame(
             h.version,
@@ -95,6 +98,7 @@ fn write_proved(h: &Header, payload: &[u8], out: &mut [u8]) -> u64 {
             payload.len(),
             out.as_mut_ptr(),
             out.len(),
+            value,
         )
     }
 }
@@ -119,12 +123,13 @@ fn least_times(frames: &Frames, ways: &mut [&mut dyn FnMut()]) -> Vec<f64> {
 
 fn measure_reading(frames: &Frames) {
     let mut fields = [0u8; 16];
+    let mut value = 0;
     let least = least_times(
         frames,
         &mut [
             &mut || {
                 for bytes in frames.bytes.chunks_exact(frames.size) {
-                    black_box(read_proved(black_box(bytes), &mut fields));
+                    black_box(read_proved(black_box(bytes), &mut fields, &mut value));
                     black_box(&fields);
                 }
             },
@@ -149,12 +154,13 @@ fn measure_writing(frames: &Frames) {
     let payload = frames.bytes[HEADER..frames.size].to_vec();
     let mut out = [vec![0u8; frames.size], vec![0u8; frames.size], vec![0u8; frames.size]];
     let [first, second, third] = &mut out;
+    let mut value = 0;
     let least = least_times(
         frames,
         &mut [
             &mut || {
                 for header in &frames.headers {
-                    black_box(write_proved(header, black_box(&payload), first));
+                    black_box(write_proved(header, black_box(&payload), first, &mut value));
                     black_box(&first);
                 }
             },
@@ -187,10 +193,11 @@ fn check_same(frames: &Frames) {
     let payload = &frames.bytes[HEADER..frames.size];
     let mut out = vec![0u8; frames.size];
     for (h, bytes) in frames.headers.iter().zip(frames.bytes.chunks(frames.size)) {
-        assert_eq!(write_proved(h, payload, &mut out), frames.size as u64);
+        let (mut fields, mut written, mut consumed) = ([0u8; 16], 0, 0);
+        assert_eq!(write_proved(h, payload, &mut out, &mut written), DONE);
+        assert_eq!(read_proved(bytes, &mut fields, &mut consumed), DONE);
+        assert_eq!([written, consumed], [frames.size as u32; 2]);
         assert_eq!(out, bytes);
-        let mut fields = [0u8; 16];
-        assert_eq!(read_proved(bytes, &mut fields), frames.size as u64);
         assert_eq!(fields[5], h.session.0);
     }
 }

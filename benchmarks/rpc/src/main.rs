@@ -8,6 +8,8 @@ use std::time::Instant;
 
 const HEADER: usize = rpc::HEADER_LENGTH;
 const FIELDS: usize = 16;
+/// The status of a call that was not refused.
+const DONE: u32 = 0;
 /// A payload of the benchmark: the header and this many bytes of JSON; no bulk data.
 const JSON: usize = 300;
 const SIZE: usize = HEADER + JSON;
@@ -21,7 +23,7 @@ const VERSION: u8 = 5;
 const FORMS: [(&str, Form); 3] = [("RPC", Form::Rpc), ("bulk", Form::Bulk), ("query", Form::Query)];
 
 extern "C" {
-    fn tilambok_read_rpc(form: u8, version: u8, payload: *const u8, length: usize, fields: *mut u8, fields_length: usize) -> u64;
+    fn tilambok_read_rpc(form: u8, version: u8, payload: *const u8, length: usize, fields: *mut u8, fields_length: usize, value: *mut u32) -> u32;
     #[allow(clippy::too_many_arguments)]
     fn tilambok_write_rpc(
         form: u8,
@@ -36,7 +38,8 @@ extern "C" {
         bulk_length: usize,
         out: *mut u8,
         out_length: usize,
-    ) -> u64;
+        value: *mut u32,
+    ) -> u32;
 }
 
 /// Some payloads of one form, one behind the other.
@@ -78,31 +81,33 @@ fn write_reference(form: Form, version: u8, header: &Header, json: &[u8], bulk: 
     rpc::write(form, version, header, json, bulk, out).unwrap_or(0)
 }
 
-/// The reference's reader with its header handed out as a C caller gets it: the same 16 bytes. So both sides do the same work.
+/// The reference's reader with its header handed out as a C caller gets it: the same 16 bytes, status and value. So both sides do the same work.
 #[inline(never)]
-fn read_reference_fields(form: Form, version: u8, payload: &[u8], fields: &mut [u8; FIELDS]) -> u64 {
+fn read_reference_fields(form: Form, version: u8, payload: &[u8], fields: &mut [u8; FIELDS], value: &mut u32) -> u32 {
     match rpc::read_header(form, version, payload) {
         Ok(Some(h)) => {
             fields[..4].copy_from_slice(&[1, h.message_type, HEADER as u8, 0]);
             fields[4..8].copy_from_slice(&h.function.to_be_bytes());
             fields[8..12].copy_from_slice(&h.correlation.to_be_bytes());
             fields[12..].copy_from_slice(&h.json_size.to_be_bytes());
-            HEADER as u64
+            *value = HEADER as u32;
+            DONE
         }
         Ok(None) => {
             fields.fill(0);
-            0
+            *value = 0;
+            DONE
         }
-        Err(refusal) => (1 << 32) + refusal as u64,
+        Err(refusal) => refusal as u32,
     }
 }
 
-fn read_proved(form: u8, version: u8, payload: &[u8], fields: &mut [u8; FIELDS]) -> u64 {
-    // SAFETY: both pointers are valid for their lengths and do not overlap.
-    unsafe { tilambok_read_rpc(form, version, payload.as_ptr(), payload.len(), fields.as_mut_ptr(), fields.len()) }
+fn read_proved(form: u8, version: u8, payload: &[u8], fields: &mut [u8; FIELDS], value: &mut u32) -> u32 {
+    // SAFETY: the pointers are valid for their lengths and do not overlap.
+    unsafe { tilambok_read_rpc(form, version, payload.as_ptr(), payload.len(), fields.as_mut_ptr(), fields.len(), value) }
 }
 
-fn write_proved(form: u8, version: u8, h: &Header, json: &[u8], bulk: &[u8], out: &mut [u8]) -> u64 {
+fn write_proved(form: u8, version: u8, h: &Header, json: &[u8], bulk: &[u8], out: &mut [u8], value: &mut u32) -> u32 {
     // SAFETY: the pointers are valid for their lengths and do not overlap.
     unsafe {
         tilambok_write_rpc(
@@ -118,6 +123,7 @@ fn write_proved(form: u8, version: u8, h: &Header, json: &[u8], bulk: &[u8], out
             bulk.len(),
             out.as_mut_ptr(),
             out.len(),
+            value,
         )
     }
 }
@@ -152,10 +158,11 @@ fn print(what: &str, name: &str, least: &[f64]) {
 fn measure_reading(p: &Payloads) {
     let mut fields = [0u8; FIELDS];
     let mut reference_fields = [0u8; FIELDS];
+    let (mut value, mut reference_value) = (0, 0);
     let least = least_times(&mut [
         &mut |_| {
             for bytes in p.bytes.chunks_exact(SIZE) {
-                black_box(read_proved(black_box(p.form as u8), black_box(VERSION), black_box(bytes), &mut fields));
+                black_box(read_proved(black_box(p.form as u8), black_box(VERSION), black_box(bytes), &mut fields, &mut value));
                 black_box(&fields);
             }
         },
@@ -167,12 +174,13 @@ fn measure_reading(p: &Payloads) {
         },
         &mut |_| {
             for bytes in p.bytes.chunks_exact(SIZE) {
-                black_box(read_reference_fields(black_box(p.form), black_box(VERSION), black_box(bytes), &mut reference_fields));
+                let (form, version) = (black_box(p.form), black_box(VERSION));
+                black_box(read_reference_fields(form, version, black_box(bytes), &mut reference_fields, &mut reference_value));
                 black_box(&reference_fields);
             }
         },
     ]);
-    assert_eq!(fields, reference_fields, "both hand out the same fields");
+    assert_eq!((fields, value), (reference_fields, reference_value), "both hand out the same");
     print("read ", p.name, &least[..2]);
     print("read, fields handed out ", p.name, &[least[0], least[2]]);
 }
@@ -181,10 +189,11 @@ fn measure_writing(p: &Payloads) {
     // What both are lent is hidden from the compiler here and not at each call: two stores of an empty slice's halves that are then loaded as
     // one would be waited for on one side alone.
     let (json, bulk): (&[u8], &[u8]) = (black_box(&p.json), black_box(&[]));
+    let mut value = 0;
     let least = least_times(&mut [
         &mut |out| {
             for header in &p.headers {
-                black_box(write_proved(black_box(p.form as u8), black_box(VERSION), header, json, bulk, out));
+                black_box(write_proved(black_box(p.form as u8), black_box(VERSION), header, json, bulk, out, &mut value));
                 black_box(&out);
             }
         },
@@ -203,10 +212,11 @@ fn check_same(p: &Payloads) {
     let mut out = vec![0u8; SIZE];
     let number = |bytes: &[u8]| bytes.iter().fold(0u32, |n, &b| n << 8 | u32::from(b));
     for (h, bytes) in p.headers.iter().zip(p.bytes.chunks(SIZE)) {
-        assert_eq!(write_proved(p.form as u8, VERSION, h, &p.json, &[], &mut out), HEADER as u64);
+        let (mut fields, mut written, mut read) = ([0u8; FIELDS], 0, 0);
+        assert_eq!(write_proved(p.form as u8, VERSION, h, &p.json, &[], &mut out, &mut written), DONE);
         assert_eq!(out, bytes);
-        let mut fields = [0u8; FIELDS];
-        assert_eq!(read_proved(p.form as u8, VERSION, bytes, &mut fields), HEADER as u64);
+        assert_eq!(read_proved(p.form as u8, VERSION, bytes, &mut fields, &mut read), DONE);
+        assert_eq!([written, read], [HEADER as u32; 2]);
         assert_eq!(fields[1], h.message_type);
         assert_eq!([number(&fields[4..8]), number(&fields[8..12]), number(&fields[12..])], [h.function, h.correlation, h.json_size]);
         assert_eq!(read_reference(p.form, VERSION, bytes), Ok(Some(*h)));

@@ -5,16 +5,16 @@ use mathlib.Core.List.{List}
 use lib.ListN.{length}
 use borrow.Author.Tests.{le-leb}
 use Rattle.numbers.proofs.Choices.{either}
-use Rattle.benchline.specs.declared.Bench.{Bench}
 use Rattle.benchline.specs.declared.Turn.{Turn}
 use Rattle.benchline.specs.Line.{Left, left, isTaken, mostText, lineOf}
 use Rattle.bench.specs.Pieces.{IsText}
 
-line-says : (b : Bench) (line pool out text : List ℕ) → mostText out ≤ length text → IsText (lineOf b line pool out text .output)
+line-says : (lines : ℕ) (line link pool out text : List ℕ) → mostText out ≤ length text → IsText (lineOf lines line link pool out text .output)
 unfolding lineOf
-line-says b line pool out text room = rw (le-leb (mostText out) (length text) room) (either (λ (l : Left). IsText (l .output)) (isTaken line) _ _ (λ _. tt) (λ _. tt))
+line-says lines line link pool out text room =
+    rw (le-leb (mostText out) (length text) room) (either (λ (l : Left). IsText (l .output)) (isTaken line) _ _ (λ _. tt) (λ _. tt))
 
 -- the same of what `benchline::line` gives back
-pub turn-says : {t : Turn} {pool′ out′ text′ : List ℕ} (b : Bench) (line pool out text : List ℕ) → mostText out ≤ length text
-    → left t pool′ out′ text′ ≡ lineOf b line pool out text → IsText (t .output)
-turn-says b line pool out text room e = subst (λ (l : Left). IsText (l .output)) (sym e) (line-says b line pool out text room)
+pub turn-says : {t : Turn} {link′ pool′ out′ text′ : List ℕ} (lines : ℕ) (line link pool out text : List ℕ) → mostText out ≤ length text
+    → left t link′ pool′ out′ text′ ≡ lineOf lines line link pool out text → IsText (t .output)
+turn-says lines line link pool out text room e = subst (λ (l : Left). IsText (l .output)) (sym e) (line-says lines line link pool out text room)

@@ -15,14 +15,12 @@ use Rattle.numbers.proofs.Choices.{split, either, unless-elim}
 use Rattle.numbers.proofs.Slices.{rest-lent}
 use Rattle.lines.specs.Hex.{bytesOf}
 use Rattle.lines.specs.Newline.{lineLength, lineEndOf}
-use Rattle.link.specs.Call.{callOf}
-use Rattle.link.specs.Values.{outcomeOf}
+use Rattle.state.specs.Calls.{callIn, toldOf}
 use Rattle.text.specs.Pieces.{fitting, putInto}
 use Rattle.text.proofs.Lists.{put-front}
-use Rattle.benchline.specs.declared.Bench.{Bench}
 use Rattle.benchline.specs.declared.Output.the-variants.{Full}
 use Rattle.benchline.specs.declared.Turn.{Turn}
-use Rattle.benchline.specs.Line.{Left, left, mostDigits, mostText, isTaken, letterX, nextOf, textOf, verdictOf, offer, refusedLine, lineOf}
+use Rattle.benchline.specs.Line.{Left, leaving, left, mostDigits, mostText, isTaken, letterX, nextOf, textOf, verdictOf, offer, refusedLine, lineOf}
 use Rattle.bench.specs.Pieces.{mostKept, sizeOf, runOf, written, waitingBefore, joined, answeredAt, afterLine, Run, afterLines, linesIn, keptAfter}
 
 -- one character of a line
@@ -61,32 +59,33 @@ too-long : (line : List ℕ) → mostDigits < length line → isTaken line ≡ f
 unfolding isTaken
 too-long line h = rw (lt-leb (length line) mostDigits h)
 
-refused-long : (b : Bench) (line pool out text : List ℕ) → mostDigits < length line
-    → lineOf b line pool out text ≡ unless (leb (mostText out) (length text)) (record { output = Full; bench = b; pool = pool; out = out; text = text }) (refusedLine b pool out text)
+refused-long : (lines : ℕ) (line link pool out text : List ℕ) → mostDigits < length line
+    → lineOf lines line link pool out text
+    ≡ unless (leb (mostText out) (length text)) (leaving Full lines link pool out text) (refusedLine lines link pool out text)
 unfolding lineOf
-refused-long b line pool out text h = rw (too-long line h)
+refused-long lines line link pool out text h = rw (too-long line h)
 
-module _ (n : ℕ) (h : mostKept ≤ n) where
+module _ (n : ℕ) (h : mostKept ≤ n) (lines : ℕ) where
   -- a line of which the front was cut
-  front-cut : (b : Bench) (front s pool out text : List ℕ) → lineOf b (take n front ++ s) pool out text ≡ lineOf b (front ++ s) pool out text
-  front-cut b front s pool out text =
-      split (leb (length front) n) (λ e. ap (λ (l : List ℕ). lineOf b (l ++ s) pool out text) (take-all n front (leb-true (length front) n e))) λ e.
+  front-cut : (front s link pool out text : List ℕ) → lineOf lines (take n front ++ s) link pool out text ≡ lineOf lines (front ++ s) link pool out text
+  front-cut front s link pool out text =
+      split (leb (length front) n) (λ e. ap (λ (l : List ℕ). lineOf lines (l ++ s) link pool out text) (take-all n front (leb-true (length front) n e))) λ e.
       let g : n < length front = leb-false (length front) n e in
-      refused-long b (take n front ++ s) pool out text (omega (arith, h, g, length-take n front, length-append (take n front) s))
-      ∙ sym (refused-long b (front ++ s) pool out text (omega (arith, h, g, length-append front s)))
+      refused-long lines (take n front ++ s) link pool out text (omega (arith, h, g, length-take n front, length-append (take n front) s))
+      ∙ sym (refused-long lines (front ++ s) link pool out text (omega (arith, h, g, length-append front s)))
 
-  line-cut : (b : Bench) (line pool out text : List ℕ) → lineOf b (take n line) pool out text ≡ lineOf b line pool out text
-  line-cut b line pool out text = rw (append-nil (take n line), append-nil line) at (front-cut b line [] pool out text)
+  line-cut : (line link pool out text : List ℕ) → lineOf lines (take n line) link pool out text ≡ lineOf lines line link pool out text
+  line-cut line link pool out text = rw (append-nil (take n line), append-nil line) at (front-cut line [] link pool out text)
 
 -- ---- a line behind what was gathered
 
 -- the front of the line buffer, with the rest of the line put behind what was gathered
-pub gathered : (b : Bench) (line part pool out text : List ℕ) (filled : ℕ) {n : ℕ} {line′ q : List ℕ} → mostKept ≤ length line
+pub gathered : (lines : ℕ) (line part link pool out text : List ℕ) (filled : ℕ) {n : ℕ} {line′ q : List ℕ} → mostKept ≤ length line
     → n ≡ min filled (length line) + length (fitting line filled part) → line′ ≡ putInto line filled part → q ≡ take n line′
-    → lineOf b q pool out text ≡ lineOf b (take filled line ++ part) pool out text
-gathered b line part pool out text filled {n} {line′} {q} h e f g =
-    ap (λ (l : List ℕ). lineOf b l pool out text) (g ∙ ap (take n) f ∙ put-front line part filled e)
-    ∙ line-cut (length line) h b (take filled line ++ part) pool out text
+    → lineOf lines q link pool out text ≡ lineOf lines (take filled line ++ part) link pool out text
+gathered lines line part link pool out text filled {n} {line′} {q} h e f g =
+    ap (λ (l : List ℕ). lineOf lines l link pool out text) (g ∙ ap (take n) f ∙ put-front line part filled e)
+    ∙ line-cut (length line) h lines (take filled line ++ part) link pool out text
 
 -- ---- texts that wait
 
@@ -103,25 +102,25 @@ Within l = sizeOf (l .output) ≤ length (l .text)
 said-within : (said : List ℕ) (text : List ℕ) → length said ≤ length (laid said text)
 said-within said text = omega (arith, length-append said (drop (length said) text))
 
-size-within : (b : Bench) (line pool out text : List ℕ) → Within (lineOf b line pool out text)
+size-within : (lines : ℕ) (line link pool out text : List ℕ) → Within (lineOf lines line link pool out text)
 unfolding lineOf
-size-within b line pool out text =
-    let number = nextOf (b .lines) in
-    let o = outcomeOf (callOf (b .link) pool (bytesOf line) out offer) in
+size-within lines line link pool out text =
+    let number = nextOf lines in
+    let o = toldOf (callIn link pool (bytesOf line) out offer) in
     unless-elim Within (leb (mostText out) (length text)) _ _ (λ _. omega arith) λ _.
     either Within (isTaken line) _ _ (λ _. said-within (textOf number (verdictOf (o .values) (o .out))) text) (λ _. said-within (textOf number (letterX ∷ [])) text)
 
-module _ {t : Turn} {pool′ out′ text′ : List ℕ} (b : Bench) (line pool out : List ℕ) where
-  pub text-within : (text : List ℕ) → left t pool′ out′ text′ ≡ lineOf b line pool out text → sizeOf (t .output) ≤ length text′
-  text-within text e = subst Within (sym e) (size-within b line pool out text)
+module _ {t : Turn} {link′ pool′ out′ text′ : List ℕ} where
+  text-within : (lines : ℕ) (line link pool out text : List ℕ) → left t link′ pool′ out′ text′ ≡ lineOf lines line link pool out text
+      → sizeOf (t .output) ≤ length text′
+  text-within lines line link pool out text e = subst Within (sym e) (size-within lines line link pool out text)
 
   -- a line's text behind the others
-  pub line-joined : (texts : List ℕ) (waiting w n : ℕ) → w ≡ waitingBefore out texts waiting → left t pool′ out′ text′ ≡ lineOf b line pool out (drop w texts)
-      → n ≡ w + sizeOf (t .output) → runOf (t .bench) pool′ out′ (take w texts ++ text′) n ≡ afterLine (runOf b pool out texts waiting) line
-  line-joined texts waiting w n h e z =
-      ap (λ (i : ℕ). runOf (t .bench) pool′ out′ (take w texts ++ text′) i) z
-      ∙ ap (joined w texts) e
-      ∙ ap (λ (i : ℕ). answeredAt i (runOf b pool out texts waiting) line) h
+  line-joined : (r : Run) (line : List ℕ) (w n : ℕ) → w ≡ waitingBefore (r .out) (r .texts) (r .waiting)
+      → left t link′ pool′ out′ text′ ≡ lineOf (r .lines) line (r .link) (r .pool) (r .out) (drop w (r .texts)) → n ≡ w + sizeOf (t .output)
+      → runOf (t .lines) link′ pool′ out′ (take w (r .texts) ++ text′) n ≡ afterLine r line
+  line-joined r line w n h e z =
+      ap (λ (i : ℕ). runOf (t .lines) link′ pool′ out′ (take w (r .texts) ++ text′) i) z ∙ ap (joined w (r .texts)) e ∙ ap (λ (i : ℕ). answeredAt i r line) h
 
 -- the buffer's rest, as it is given back
 pub rest-back : (texts text : List ℕ) (w : ℕ) → putMid w (length texts - w) texts text ≡ take w texts ++ text
@@ -129,23 +128,29 @@ rest-back texts text w =
     let h : length (drop w texts) ≤ length texts - w = omega (arith, length-drop w texts) in
     ap (λ (t : List ℕ). take w texts ++ (text ++ t)) (drop-of-length-le (drop w texts) {i = length texts - w} h) ∙ ap (λ (t : List ℕ). take w texts ++ t) (append-nil text)
 
--- all that a line leaves, as the code has it: q is the line, and its text goes to the buffer's rest
-pub line-taken : {t : Turn} {pool′ out′ text′ : List ℕ} {w n : ℕ} {q : List ℕ} (b : Bench) (line pool out texts : List ℕ) (waiting : ℕ) → q ≡ line
-    → w ≡ waitingBefore out texts waiting → w ≤ length texts → length text′ ≡ length (midOf w (length texts - w) texts)
-    → left t pool′ out′ text′ ≡ lineOf b q pool out (midOf w (length texts - w) texts) → n ≡ min (w + sizeOf (t .output)) (length (putMid w (length texts - w) texts text′))
-    → runOf (t .bench) pool′ out′ (putMid w (length texts - w) texts text′) n ≡ afterLine (runOf b pool out texts waiting) line
-line-taken {t} {pool′} {out′} {text′} {w} {n} {q} b line pool out texts waiting f h i k e z =
-    let m = midOf w (length texts - w) texts in
-    let size : sizeOf (t .output) ≤ length text′ = text-within b q pool out m e in
-    let room : length text′ ≡ length texts - w = k ∙ ap (λ (s : List ℕ). length s) (rest-lent texts w) ∙ length-drop w texts in
-    let left-so = e ∙ ap (λ (l : List ℕ). lineOf b l pool out m) f ∙ ap (lineOf b line pool out) (rest-lent texts w) in
+-- all that a line leaves, as the code has it: q is the line after m others, its text goes to the buffer's rest, and k lines are answered then
+pub line-taken : {t : Turn} {link′ pool′ out′ text′ : List ℕ} {m k w n : ℕ} {q : List ℕ} (r : Run) (line : List ℕ) → m ≡ r .lines → q ≡ line
+    → w ≡ waitingBefore (r .out) (r .texts) (r .waiting) → w ≤ length (r .texts) → length text′ ≡ length (midOf w (length (r .texts) - w) (r .texts))
+    → left t link′ pool′ out′ text′ ≡ lineOf m q (r .link) (r .pool) (r .out) (midOf w (length (r .texts) - w) (r .texts))
+    → n ≡ min (w + sizeOf (t .output)) (length (putMid w (length (r .texts) - w) (r .texts) text′)) → k ≡ t .lines
+    → runOf k link′ pool′ out′ (putMid w (length (r .texts) - w) (r .texts) text′) n ≡ afterLine r line
+line-taken {t} {link′} {pool′} {out′} {text′} {m} {k} {w} {n} {q} r line f g h i l e z y =
+    let texts = r .texts in
+    let mid = midOf w (length texts - w) texts in
+    let answer : ℕ → List ℕ → List ℕ → Left = λ j s text. lineOf j s (r .link) (r .pool) (r .out) text in
+    let size : sizeOf (t .output) ≤ length text′ = text-within m q (r .link) (r .pool) (r .out) mid e in
+    let room : length text′ ≡ length texts - w = l ∙ ap (λ (s : List ℕ). length s) (rest-lent texts w) ∙ length-drop w texts in
+    let left-so = e ∙ ap (λ (j : ℕ). answer j q mid) f ∙ ap (λ (s : List ℕ). answer (r .lines) s mid) g ∙ ap (answer (r .lines) line) (rest-lent texts w) in
     let whole = ap (λ (s : List ℕ). length s) (rest-back texts text′ w) ∙ length-append (take w texts) text′ in
-    ap (λ (s : List ℕ). runOf (t .bench) pool′ out′ s n) (rest-back texts text′ w)
-    ∙ line-joined b line pool out texts waiting w n h left-so (omega (arith, z, size, room, i, whole, length-take w texts))
+    ap (λ (j : ℕ). runOf j link′ pool′ out′ (putMid w (length texts - w) texts text′) n) y
+    ∙ ap (λ (s : List ℕ). runOf (t .lines) link′ pool′ out′ s n) (rest-back texts text′ w)
+    ∙ line-joined r line w n h left-so (omega (arith, z, size, room, i, whole, length-take w texts))
 
 -- the texts are written then, and what is kept stays
-pub then-written : {b : Bench} {pool out texts : List ℕ} {n w : ℕ} {r : Run} → n ≡ 0 → runOf b pool out texts w ≡ r → runOf b pool out texts n ≡ written r
-then-written {b} {pool} {out} {texts} z e = ap (runOf b pool out texts) z ∙ ap written e
+pub then-written : {k l : ℕ} {link pool out texts : List ℕ} {n w : ℕ} {r : Run} → n ≡ 0 → k ≡ l → runOf l link pool out texts w ≡ r
+    → runOf k link pool out texts n ≡ written r
+then-written {link = link} {pool} {out} {texts} z y e =
+    ap (runOf _ link pool out texts) z ∙ ap (λ (i : ℕ). runOf i link pool out texts 0) y ∙ ap written e
 
 pub then-kept : {n m : ℕ} {kept : List ℕ} (line : List ℕ) → n ≡ m → take m line ≡ kept → take n line ≡ kept
 then-kept line z e = ap (λ (i : ℕ). take i line) z ∙ e
@@ -192,11 +197,14 @@ module _ (piece : List ℕ) (at end : ℕ) (e : end ≡ at + lineLength (drop at
     unfolding afterLines
     lines-over kept r = ap (afterLines r) (lines-none kept (drop at piece) all-in-line)
 
-    pub kept-over : (line : List ℕ) (filled : ℕ) {n : ℕ} {line′ : List ℕ} → n ≡ min filled (length line) + length (fitting line filled (midOf at (length piece - at) piece))
-        → line′ ≡ putInto line filled (midOf at (length piece - at) piece) → take n line′ ≡ take (length line) (keptAfter (take filled line) (drop at piece))
-    kept-over line filled {n} {line′} f g =
+    pub kept-over : (line : List ℕ) (filled : ℕ) {place n : ℕ} {line′ : List ℕ}
+        → n ≡ min place (length line) + length (fitting line place (midOf at (length piece - at) piece))
+        → line′ ≡ putInto line place (midOf at (length piece - at) piece) → place ≡ filled
+        → take n line′ ≡ take (length line) (keptAfter (take filled line) (drop at piece))
+    kept-over line filled {place} {n} {line′} f g z =
         ap (take n) g
-        ∙ put-front line (midOf at (length piece - at) piece) filled f
+        ∙ put-front line (midOf at (length piece - at) piece) place f
+        ∙ ap (λ (i : ℕ). take (length line) (take i line ++ midOf at (length piece - at) piece)) z
         ∙ ap (λ (s : List ℕ). take (length line) (take filled line ++ s)) (rest-lent piece at)
         ∙ ap (take (length line)) (sym (kept-none (take filled line) (drop at piece) all-in-line))
 
@@ -224,8 +232,9 @@ module _ (n : ℕ) (h : mostKept ≤ n) where
   lines-cut r front s [] = refl
   lines-cut r front s (b ∷ q) =
       let w = waitingBefore (r .out) (r .texts) (r .waiting) in
+      let same = front-cut n h (r .lines) front s (r .link) (r .pool) (r .out) (drop w (r .texts)) in
       split (eqb b 10)
-      (λ t. rw t (ap (λ (l : Left). afterLines (joined w (r .texts) l) (linesIn [] q)) (front-cut n h (r .bench) front s (r .pool) (r .out) (drop w (r .texts)))))
+      (λ t. rw t (ap (λ (l : Left). afterLines (joined w (r .texts) l) (linesIn [] q)) same))
       (λ f. rw (f, append-assoc (take n front) s (b ∷ []), append-assoc front s (b ∷ [])) (lines-cut r front (s ++ b ∷ []) q))
 
   -- however the input is cut into pieces, its lines are the same, and each is answered as the whole line: n characters of what goes on are kept

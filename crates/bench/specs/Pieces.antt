@@ -7,11 +7,14 @@ use mathlib.Core.List.{List, [], _∷_, _++_}
 use lib.Dec.{eqb, leb}
 use lib.ListN.{length, take, drop}
 use Rattle.numbers.specs.Bytes.{pick}
-use Rattle.benchline.specs.declared.Bench.{Bench}
 use Rattle.benchline.specs.declared.Output.{Output}
 use Rattle.benchline.specs.declared.Output.the-variants.{Text, Full}
 use Rattle.benchline.specs.Line.{Left, mostText, lineOf}
 use Rattle.bench.specs.declared.State.{State}
+
+-- a link's state
+abbrev pub stateSize : ℕ
+stateSize = 2688
 
 -- "out of 65,536 bytes", and the pool that a link asks for
 abbrev pub outSize : ℕ
@@ -33,20 +36,22 @@ abbrev pub sizeOf : Output → ℕ
 sizeOf (Text n) = n
 sizeOf Full = 0
 
--- what goes from line to line: the bench, the link's buffers, and the texts that wait to be written, so many characters at the front of theirs
+-- what goes from line to line: how many were answered, the link's state, its buffers, and the texts that wait to be written, so many characters at the
+-- front of theirs
 pub record Run : Type 0 where
-  pub bench : Bench
+  pub lines : ℕ
+  pub link : List ℕ
   pub pool : List ℕ
   pub out : List ℕ
   pub texts : List ℕ
   pub waiting : ℕ
 
-abbrev pub runOf : Bench → List ℕ → List ℕ → List ℕ → ℕ → Run
-runOf bench pool out texts waiting = record { bench = bench; pool = pool; out = out; texts = texts; waiting = waiting }
+abbrev pub runOf : ℕ → List ℕ → List ℕ → List ℕ → List ℕ → ℕ → Run
+runOf lines link pool out texts waiting = record { lines = lines; link = link; pool = pool; out = out; texts = texts; waiting = waiting }
 
 -- the texts are written, and none waits
 abbrev pub written : Run → Run
-written r = runOf (r .bench) (r .pool) (r .out) (r .texts) 0
+written r = runOf (r .lines) (r .link) (r .pool) (r .out) (r .texts) 0
 
 -- after a write that failed nothing more is written or read
 abbrev pub Flushed : State → State → Type 0
@@ -60,11 +65,11 @@ waitingBefore out texts waiting = pick (leb waiting (length texts - mostText out
 
 -- what a line left, its text behind so many characters
 abbrev pub joined : ℕ → List ℕ → Left → Run
-joined waiting texts l = runOf (l .bench) (l .pool) (l .out) (take waiting texts ++ l .text) (waiting + sizeOf (l .output))
+joined waiting texts l = runOf (l .lines) (l .state) (l .pool) (l .out) (take waiting texts ++ l .text) (waiting + sizeOf (l .output))
 
 abbrev pub answeredAt : ℕ → Run → List ℕ → Run
 answeredAt waiting r line =
-    joined waiting (r .texts) (lineOf (r .bench) line (r .pool) (r .out) (drop waiting (r .texts)))
+    joined waiting (r .texts) (lineOf (r .lines) line (r .link) (r .pool) (r .out) (drop waiting (r .texts)))
 
 abbrev pub afterLine : Run → List ℕ → Run
 afterLine r line = answeredAt (waitingBefore (r .out) (r .texts) (r .waiting)) r line
@@ -87,17 +92,6 @@ keptAfter kept (b ∷ piece) = pick (eqb b 10) (keptAfter [] piece) (keptAfter (
 abbrev pub afterRead : Run → List ℕ → List ℕ → Run
 afterRead r kept piece = pick (eqb (length piece) 0) r (written (afterLines r (linesIn kept piece)))
 
--- the texts that wait at the end
-pub record Waits : Type 0 where
-  pub texts : List ℕ
-  pub waiting : ℕ
-
-abbrev pub waits : List ℕ → ℕ → Waits
-waits texts waiting = record { texts = texts; waiting = waiting }
-
-abbrev pub waitsIn : Run → Waits
-waitsIn r = waits (r .texts) (r .waiting)
-
 -- the last line may lack its newline; an empty one is none
-abbrev pub lastOf : Run → ℕ → List ℕ → Waits
-lastOf r filled line = waitsIn (pick (eqb filled 0) r (afterLine r (take filled line)))
+abbrev pub lastOf : Run → ℕ → List ℕ → Run
+lastOf r filled line = pick (eqb filled 0) r (afterLine r (take filled line))

@@ -21,16 +21,13 @@ use Rattle.frame.specs.declared.Extent.{Extent}
 use Rattle.frame.specs.declared.Reading.{Reading}
 use Rattle.frame.specs.declared.Reading.the-variants as reading
 use Rattle.frame.specs.Read.{readOf}
-use Rattle.link.specs.declared.Link.{Link}
 use Rattle.link.specs.declared.Grant.{Grant}
-use Rattle.link.specs.Call.{callOf}
-use Rattle.link.specs.Values.{Outcome, outcomeOf}
+use Rattle.state.specs.Calls.{callIn, Told, toldOf}
 use Rattle.headunit.specs.Unit.{Sent, sent, sentOf}
-use Rattle.benchline.specs.declared.Bench.{Bench}
 use Rattle.benchline.specs.declared.Output.the-variants.{Text}
 use Rattle.benchline.specs.declared.Input.{Input}
 use Rattle.benchline.specs.declared.Input.the-variants.{Frame, NotTaken}
-use Rattle.benchline.specs.Line.{offer, benchWith, isFrame, isTaken, letterX, verdictOf, textOf, nextOf, Left, refusedLine, answeredLine, mostText, lineOf}
+use Rattle.benchline.specs.Line.{offer, isFrame, isTaken, letterX, verdictOf, textOf, nextOf, leaving, saying, refusedLine, answeredLine, mostText, lineOf}
 
 -- a frame and no more, where the test b says whether it takes all the bytes
 pub whole-frame : {b : Bool} {r s : Reading} {h : Header} {e : Extent} (bytes : List ℕ) → r ≡ s → r ≡ reading.Frame h e
@@ -109,32 +106,28 @@ none-told true k e f = cc
 none-told false k e f = refl
 
 -- what an answered and a refused line leave
-module _ (text : List ℕ) {number count : ℕ} {text′ : List ℕ} where
-  pub answered-is : (lines : ℕ) (link : Link) (pool bytes out : List ℕ) {o : Outcome} {g : Grant}
-      → number ≡ nextOf lines → g ≡ offer → o ≡ outcomeOf (callOf link pool bytes out g) → sent count text′ ≡ sentOf (textOf number (verdictOf (o .values) (o .out))) text
-      → _≡_ {A = Left} (record { output = Text count; bench = benchWith (o .link) number; pool = o .pool; out = o .out; text = text′ })
-      (answeredLine (nextOf lines) (outcomeOf (callOf link pool bytes out offer)) text)
-  answered-is lines link pool bytes out {o} n e c s =
-      ap (λ (w : Sent). record { output = Text (w .count); bench = benchWith (o .link) number; pool = o .pool; out = o .out; text = w .out }) s
-      ∙ ap (λ (x : Outcome). answeredLine number x text) (c ∙ ap (λ (x : Grant). outcomeOf (callOf link pool bytes out x)) e)
-      ∙ ap (λ (k : ℕ). answeredLine k (outcomeOf (callOf link pool bytes out offer)) text) n
+module _ (lines : ℕ) (text : List ℕ) {number count : ℕ} {text′ : List ℕ} (n : number ≡ nextOf lines) where
+  pub answered-is : (state pool bytes out : List ℕ) {o : Told} {g : Grant} → g ≡ offer → o ≡ toldOf (callIn state pool bytes out g)
+      → sent count text′ ≡ sentOf (textOf number (verdictOf (o .values) (o .out))) text
+      → leaving (Text count) number (o .state) (o .pool) (o .out) text′ ≡ answeredLine (nextOf lines) (toldOf (callIn state pool bytes out offer)) text
+  answered-is state pool bytes out {o} e c s =
+      ap (λ (w : Sent). leaving (Text (w .count)) number (o .state) (o .pool) (o .out) (w .out)) s
+      ∙ ap (λ (x : Told). answeredLine number x text) (c ∙ ap (λ (x : Grant). toldOf (callIn state pool bytes out x)) e)
+      ∙ ap (λ (k : ℕ). answeredLine k (toldOf (callIn state pool bytes out offer)) text) n
 
-  pub refused-is : (b : Bench) (pool out : List ℕ) → number ≡ nextOf (b .lines) → sent count text′ ≡ sentOf (textOf number (letterX ∷ [])) text
-      → _≡_ {A = Left} (record { output = Text count; bench = benchWith (b .link) number; pool = pool; out = out; text = text′ }) (refusedLine b pool out text)
-  refused-is b pool out n s =
-      ap (λ (w : Sent). record { output = Text (w .count); bench = benchWith (b .link) number; pool = pool; out = out; text = w .out }) s
-      ∙ ap (λ (k : ℕ). record { output = Text (length (textOf k (letterX ∷ []))); bench = benchWith (b .link) k; pool = pool; out = out; text = laid (textOf k (letterX ∷ [])) text }) n
-
--- room for the longest text is room for a line that is not taken
-pub room-least : {n : ℕ} (out : List ℕ) → mostText out ≤ n → 32 ≤ n
-room-least out h = omega arith
+  pub refused-is : (state pool out : List ℕ) → sent count text′ ≡ sentOf (textOf number (letterX ∷ [])) text
+      → leaving (Text count) number state pool out text′ ≡ refusedLine lines state pool out text
+  refused-is state pool out s =
+      ap (λ (w : Sent). leaving (Text (w .count)) number state pool out (w .out)) s
+      ∙ ap (λ (k : ℕ). saying (textOf k (letterX ∷ [])) k state pool out text) n
 
 -- the line's outcomes
-module _ (b : Bench) (line pool out text : List ℕ) (room : mostText out ≤ length text) where
-  pub line-answered : {f : List ℕ} → isTaken line ≡ true → f ≡ bytesOf line → answeredLine (nextOf (b .lines)) (outcomeOf (callOf (b .link) pool f out offer)) text ≡ lineOf b line pool out text
+module _ (lines : ℕ) (line state pool out text : List ℕ) (room : mostText out ≤ length text) where
+  pub line-answered : {f : List ℕ} → isTaken line ≡ true → f ≡ bytesOf line
+      → answeredLine (nextOf lines) (toldOf (callIn state pool f out offer)) text ≡ lineOf lines line state pool out text
   unfolding lineOf
   line-answered e g = rw (g, le-leb (mostText out) (length text) room, e)
 
-  pub line-refused : isTaken line ≡ false → refusedLine b pool out text ≡ lineOf b line pool out text
+  pub line-refused : isTaken line ≡ false → refusedLine lines state pool out text ≡ lineOf lines line state pool out text
   unfolding lineOf
   line-refused e = rw (le-leb (mostText out) (length text) room, e)

@@ -13,12 +13,9 @@ use Rattle.frame.specs.declared.Reading.{Reading}
 use Rattle.frame.specs.declared.Reading.the-variants as reading
 use Rattle.frame.specs.Read.{readOf}
 use Rattle.payload.specs.declared.version.Version.{Version}
-use Rattle.link.specs.declared.Link.{Link}
 use Rattle.link.specs.declared.Grant.{Grant}
-use Rattle.link.specs.State.{createdLink}
-use Rattle.link.specs.Call.{callOf}
-use Rattle.link.specs.Values.{Kind, short, refused, reply, silent, delivery, Values, serviceBytes, Outcome, outcomeOf}
-use Rattle.benchline.specs.declared.Bench.{Bench}
+use Rattle.link.specs.Values.{Kind, short, refused, reply, silent, delivery, Values, serviceBytes}
+use Rattle.state.specs.Calls.{callIn, Told, toldOf, createIn}
 use Rattle.benchline.specs.declared.Output.{Output}
 use Rattle.benchline.specs.declared.Output.the-variants.{Text, Full}
 use Rattle.benchline.specs.declared.Turn.{Turn}
@@ -38,12 +35,9 @@ moduleMtu = 131084
 abbrev pub offer : Grant
 offer = record { guarantee = 32; cap = 64; hash = 39027 }
 
-abbrev pub benchWith : Link → ℕ → Bench
-benchWith link lines = record { link = link; lines = lines }
-
--- the bench before its first line
-abbrev pub newBench : Bench
-newBench = benchWith (createdLink moduleVersion moduleMtu) 0
+-- the link's state before the first line; bytes of any other length stay (each line that is taken is then `R 10`)
+abbrev pub newState : List ℕ → List ℕ
+newState state = createIn state moduleVersion moduleMtu .state
 
 -- "Short, or bytes after the frame" is X; bytes that the reader refuses go to the link, whose answer is that number
 abbrev pub isFrame : List ℕ → Reading → Bool
@@ -99,40 +93,41 @@ textOf number verdict = decimalOf number ++ (spaced verdict ++ 10 ∷ [])
 abbrev pub nextOf : ℕ → ℕ
 nextOf lines = (lines + 1) % 2 ^ 64
 
--- all that a line leaves: what it gives back, and the lent buffers
+-- all that a line leaves: what it gives back, the link's state, and the lent buffers
 pub record Left : Type 0 where
   pub output : Output
-  pub bench : Bench
+  pub lines : ℕ
+  pub state : List ℕ
   pub pool : List ℕ
   pub out : List ℕ
   pub text : List ℕ
 
-abbrev pub left : Turn → List ℕ → List ℕ → List ℕ → Left
-left t pool out text = record { output = t .output; bench = t .bench; pool = pool; out = out; text = text }
+abbrev pub leaving : Output → ℕ → List ℕ → List ℕ → List ℕ → List ℕ → Left
+leaving output lines state pool out text = record { output = output; lines = lines; state = state; pool = pool; out = out; text = text }
+
+abbrev pub left : Turn → List ℕ → List ℕ → List ℕ → List ℕ → Left
+left t state pool out text = leaving (t .output) (t .lines) state pool out text
 
 -- the text to the front of the text buffer, and how long it is
-abbrev pub saying : List ℕ → Link → ℕ → List ℕ → List ℕ → List ℕ → Left
-saying said link number pool out text =
-    record { output = Text (length said); bench = benchWith link number; pool = pool; out = out; text = laid said text }
+abbrev pub saying : List ℕ → ℕ → List ℕ → List ℕ → List ℕ → List ℕ → Left
+saying said number state pool out text = leaving (Text (length said)) number state pool out (laid said text)
 
--- a line that is not taken: the link is not called
-abbrev pub refusedLine : Bench → List ℕ → List ℕ → List ℕ → Left
-refusedLine b pool out text =
-    saying (textOf (nextOf (b .lines)) (letterX ∷ [])) (b .link) (nextOf (b .lines)) pool out text
+-- a line that is not taken, after so many: the link is not called
+abbrev pub refusedLine : ℕ → List ℕ → List ℕ → List ℕ → List ℕ → Left
+refusedLine lines state pool out text = saying (textOf (nextOf lines) (letterX ∷ [])) (nextOf lines) state pool out text
 
 -- a line that is taken: what the call left, and its verdict
-abbrev pub answeredLine : ℕ → Outcome → List ℕ → Left
-answeredLine number o text =
-    saying (textOf number (verdictOf (o .values) (o .out))) (o .link) number (o .pool) (o .out) text
+abbrev pub answeredLine : ℕ → Told → List ℕ → Left
+answeredLine number o text = saying (textOf number (verdictOf (o .values) (o .out))) number (o .state) (o .pool) (o .out) text
 
 -- no text is longer: 20 digits of the number, 3 spaces, a letter, the service's 2 digits, two for each byte of out and a newline make
 -- 27 and twice out's bytes
 abbrev pub mostText : List ℕ → ℕ
 mostText out = 2 * length out + 32
 
--- one line: Full, with nothing changed, where the longest text might not fit; else its text
-unfoldable pub lineOf : Bench → List ℕ → List ℕ → List ℕ → List ℕ → Left
-lineOf b line pool out text =
-    unless (leb (mostText out) (length text)) (record { output = Full; bench = b; pool = pool; out = out; text = text })
-    (pick (isTaken line) (answeredLine (nextOf (b .lines)) (outcomeOf (callOf (b .link) pool (bytesOf line) out offer)) text)
-    (refusedLine b pool out text))
+-- one line, after so many: Full, with nothing changed, where the longest text might not fit; else its text
+unfoldable pub lineOf : ℕ → List ℕ → List ℕ → List ℕ → List ℕ → List ℕ → Left
+lineOf lines line state pool out text =
+    unless (leb (mostText out) (length text)) (leaving Full lines state pool out text)
+    (pick (isTaken line) (answeredLine (nextOf lines) (toldOf (callIn state pool (bytesOf line) out offer)) text)
+    (refusedLine lines state pool out text))

@@ -1,6 +1,6 @@
 // The bench: one line of hexadecimal digits in, one line of text out. Document 01, "The bench program and the C side".
-// It reads and writes nothing itself. The state goes in and out by value; the digits, the pool, the link's out buffer and the text buffer
-// are lent. Every state, line and buffer is answered.
+// It reads and writes nothing itself. The link's state, the digits, the pool, the link's out buffer and the text buffer are lent; how many lines were
+// answered goes in and out by value. Every state, line and buffer is answered.
 ghost use mathlib.Core.Path.{_≡_};
 ghost use mathlib.Core.Bool.{true};
 ghost use mathlib.Core.List.{List, [], _∷_, _++_};
@@ -12,18 +12,17 @@ ghost use Rattle.lines.specs.Hex.{bytesOf, hexOf};
 ghost use Rattle.lines.specs.Decimal.{decimalOf};
 ghost use Rattle.frame.specs.Read.{readOf};
 ghost use Rattle.payload.specs.Append.{Appended};
-ghost use Rattle.link.specs.Call.{callOf};
-ghost use Rattle.link.specs.Values.{valuesOf, outcomeOf};
+ghost use Rattle.link.specs.Values.{valuesOf};
+ghost use Rattle.state.specs.Calls.{callIn, toldOf};
 ghost use Rattle.headunit.specs.Unit.{sent, sentOf};
 ghost use Rattle.benchline.specs.declared.Input.the-variants.{Frame, NotTaken};
-ghost use Rattle.benchline.specs.Line.{offer as offered, newBench, isFrame, isTaken, spaced, letterX, letterR, letterW, letterD, verdictOf, textOf, nextOf, left, refusedLine, answeredLine, mostText, lineOf};
+ghost use Rattle.benchline.specs.Line.{offer as offered, newState, isFrame, isTaken, spaced, letterX, letterR, letterW, letterD, verdictOf, textOf, nextOf, left, refusedLine, answeredLine, mostText, lineOf};
 use frame::Reading;
 use frame::ServiceType;
 use lines::Decoded;
 use lines::Encoded;
 use link::Answer;
 use link::Grant;
-use link::Link;
 use payload::version::Version;
 
 // Document 01's figures of the bench.
@@ -40,13 +39,6 @@ const CAP: u16 = 64;
 
 const HASH: u32 = 39027;
 
-// The state between two lines.
-pub struct Bench {
-    pub link: Link,
-    // so many lines were answered; after 2^64 - 1 comes 0
-    pub lines: u64,
-}
-
 // What a line answers: so many characters at the front of the text buffer, the newline included, or that the text might not fit.
 pub enum Output {
     Text(usize),
@@ -56,7 +48,8 @@ pub enum Output {
 // What a line gives back.
 pub struct Turn {
     pub output: Output,
-    pub bench: Bench,
+    // so many lines were answered; after 2^64 - 1 comes 0
+    pub lines: u64,
 }
 
 // What the digits of a line are: so many bytes for the link, or nothing that it is asked about.
@@ -241,21 +234,16 @@ fn offer() -> Grant
     }
 }
 
-// The bench before its first line.
-pub fn start() -> Bench
-    ensures { λ r. ⌜ r ≡ newBench ⌝ }
+// The link's state before the first line.
+pub fn start(link: &mut [u8])
+    ensures { λ _. ⌜ now (link .exit) ≡ newState (now (link .entry)) ⌝ }
 {
     let version = Version {
         major: 5,
         minor: 4,
         patch: 1,
     };
-    let created = headunit::create(version, MODULE_MTU);
-    let link = created.link;
-    Bench {
-        link: link,
-        lines: 0,
-    }
+    headunit::create(link, version, MODULE_MTU);
 }
 
 // Whether the longest text fits.
@@ -276,55 +264,59 @@ fn next_number(lines: u64) -> u64
 }
 
 // A line that is taken: the link is called.
-fn answered(bench: Bench, bytes: &[u8], pool: &mut [u8], out: &mut [u8], text: &mut [u8]) -> Turn
+fn answered(
+    lines: u64,
+    bytes: &[u8],
+    link: &mut [u8],
+    pool: &mut [u8],
+    out: &mut [u8],
+    text: &mut [u8],
+) -> Turn
     requires { ⌜ mostText (now out) ≤ length (now text) ⌝ }
-    ensures { λ r. ⌜ left r (now (pool .exit)) (now (out .exit)) (now (text .exit)) ≡ answeredLine (nextOf (bench .lines)) (outcomeOf (callOf (bench .link) (now (pool .entry)) (now (bytes .entry)) (now (out .entry)) offered)) (now (text .entry)) ⌝ }
+    ensures { λ r. ⌜ left r (now (link .exit)) (now (pool .exit)) (now (out .exit)) (now (text .exit)) ≡ answeredLine (nextOf lines) (toldOf (callIn (now (link .entry)) (now (pool .entry)) (now (bytes .entry)) (now (out .entry)) offered)) (now (text .entry)) ⌝ }
 {
-    let before = bench.link;
-    let called = headunit::call(before, pool, bytes, out, offer());
-    let number = next_number(bench.lines);
-    let answer = called.answer;
+    let answer = headunit::call(link, pool, bytes, out, offer());
+    let number = next_number(lines);
     let count = put_answer(number, answer, out, text);
-    let link = called.link;
     Turn {
         output: Output::Text(count),
-        bench: Bench {
-            link: link,
-            lines: number,
-        },
+        lines: number,
     }
 }
 
-// A line that is not: the link, its pool and its buffer stay.
-fn refused(bench: Bench, text: &mut [u8]) -> Turn
+// A line that is not: the link's state, its pool and its buffer stay.
+fn refused(lines: u64, text: &mut [u8]) -> Turn
     requires { ⌜ 32 ≤ length (now text) ⌝ }
-    ensures { λ r. ⌜ ((pool out : List ℕ) → left r pool out (now (text .exit)) ≡ refusedLine bench pool out (now (text .entry))) ⌝ }
+    ensures { λ r. ⌜ ((state pool out : List ℕ) → left r state pool out (now (text .exit)) ≡ refusedLine lines state pool out (now (text .entry))) ⌝ }
 {
-    let number = next_number(bench.lines);
+    let number = next_number(lines);
     let count = put_not_taken(number, text);
-    let link = bench.link;
     Turn {
         output: Output::Text(count),
-        bench: Bench {
-            link: link,
-            lines: number,
-        },
+        lines: number,
     }
 }
 
-// One line without its newline: its text, newline included, to the front of the text buffer.
-pub fn line(bench: Bench, digits: &[u8], pool: &mut [u8], out: &mut [u8], text: &mut [u8]) -> Turn
-    ensures { λ r. ⌜ left r (now (pool .exit)) (now (out .exit)) (now (text .exit)) ≡ lineOf bench (now (digits .entry)) (now (pool .entry)) (now (out .entry)) (now (text .entry)) ⌝ }
+// One line without its newline, after so many: its text, newline included, to the front of the text buffer.
+pub fn line(
+    lines: u64,
+    digits: &[u8],
+    link: &mut [u8],
+    pool: &mut [u8],
+    out: &mut [u8],
+    text: &mut [u8],
+) -> Turn
+    ensures { λ r. ⌜ left r (now (link .exit)) (now (pool .exit)) (now (out .exit)) (now (text .exit)) ≡ lineOf lines (now (digits .entry)) (now (link .entry)) (now (pool .entry)) (now (out .entry)) (now (text .entry)) ⌝ }
 {
     if !has_room(text.len(), out.len()) {
         return Turn {
             output: Output::Full,
-            bench: bench,
+            lines: lines,
         };
     }
     let mut bytes = [0u8; MOST_BYTES];
     match read_line(digits, &mut bytes) {
-        Input::Frame(count) => answered(bench, front(&bytes, count), pool, out, text),
-        Input::NotTaken => refused(bench, text),
+        Input::Frame(count) => answered(lines, front(&bytes, count), link, pool, out, text),
+        Input::NotTaken => refused(lines, text),
     }
 }

@@ -49,17 +49,7 @@ overwritten s l at {n} h e f =
     let y : n - 0 ≡ n = omega arith in
     rw (z, f, y, drop-drop n at l) (sym (over-parts at n s l (omega arith) e))
 
--- bytes copied by way of other bytes m, and in two halves
-pub by-way : (s z t : List ℕ) {m r : List ℕ} → length t ≡ length s → m ≡ take (length s) s ++ drop (length s) z
-    → r ≡ take (length (take (length s - 0) (drop 0 m))) (take (length s - 0) (drop 0 m)) ++ drop (length (take (length s - 0) (drop 0 m))) t
-    → r ≡ s
-by-way s z t {m} l e f =
-    let y : length s - 0 ≡ length s = omega arith in
-    let all : take (length s) s ≡ s = take-all (length s) s (omega arith) in
-    let near : take (length s) m ≡ s = rw (e, all) (take-at s (drop (length s) z) (length s) refl) in
-    let h : length t ≤ length s = omega arith in
-    f ∙ rw (y, near, all, drop-of-length-le t {i = length s} h) (append-nil s)
-
+-- bytes copied in two halves
 pub halves : (s t : List ℕ) {a b : List ℕ} → length s ≡ 256 → length t ≡ 256 → a ≡ take 128 s → b ≡ take 128 (drop 128 s) → putMid 128 128 (putMid 0 128 t a) b ≡ s
 halves s t {a} {b} l m e f =
     let p : List ℕ = a ++ drop 128 t in

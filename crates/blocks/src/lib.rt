@@ -226,20 +226,17 @@ fn entry_after(entry: u8, low: u8, high: u8) -> u8
     }
 }
 
-// The map after all blocks of the owners from low to high were freed: one owner's by (x, x), or those of several that have neighbouring numbers.
-pub fn release(map: [u8; BLOCK_COUNT], low: Owner, high: Owner) -> [u8; BLOCK_COUNT]
-    ensures { λ r. ⌜ r ≡ released (low .0) (high .0) map ⌝ }
+// Frees all blocks of the owners from low to high: one owner's by (x, x), or those of several that have neighbouring numbers. No branch: vector code.
+pub fn release(map: &mut [u8], low: Owner, high: Owner)
+    ensures { λ _. ⌜ now (map .exit) ≡ released (low .0) (high .0) (now (map .entry)) ⌝ }
 {
     let first = low.0;
     let last = high.0;
-    let mut after = map;
-    let mut block = BlockNumber(0);
-    while block.0 < BLOCK_COUNT {
-        let i = block.0;
-        after[i] = entry_after(after[i], first, last);
-        block = BlockNumber(i + 1);
+    let mut i: usize = 0;
+    while i < map.len() {
+        map[i] = entry_after(map[i], first, last);
+        i += 1;
     }
-    after
 }
 
 // An owner's block at the place n among those from a block on, entry by entry; the map's length if it has not so many.
@@ -309,27 +306,16 @@ fn starts_inside(block: BlockNumber, bytes: usize) -> bool
     block.0 < blocks_needed(bytes)
 }
 
-// Copies at most a block by way of an array of its own. That lies apart from both, so the compiler makes one move of the two copies, with no test for overlap.
-fn copy_short(source: &[u8], target: &mut [u8])
-    requires { ⌜ (length (now source) ≤ 256) × (length (now target) ≡ length (now source)) ⌝ }
-    ensures { λ _. ⌜ now (target .exit) ≡ now (source .entry) ⌝ }
-{
-    let n = source.len();
-    let mut between = [0u8; BLOCK_SIZE];
-    bytes::copy(source, &mut between);
-    bytes::copy(&between[0..n], target);
-}
-
-// The same; a whole block goes in two halves, each small enough for the compiler to move it in place, with no call.
+// Copies at most a block; a whole one goes in two halves, each small enough for the compiler to move it in place, with no call.
 fn copy_block(source: &[u8], target: &mut [u8])
     requires { ⌜ (length (now source) ≤ 256) × (length (now target) ≡ length (now source)) ⌝ }
     ensures { λ _. ⌜ now (target .exit) ≡ now (source .entry) ⌝ }
 {
     if source.len() == BLOCK_SIZE {
-        copy_short(&source[0..HALF], &mut target[0..HALF]);
-        copy_short(&source[HALF..BLOCK_SIZE], &mut target[HALF..BLOCK_SIZE]);
+        numbers::copy(&source[0..HALF], &mut target[0..HALF]);
+        numbers::copy(&source[HALF..BLOCK_SIZE], &mut target[HALF..BLOCK_SIZE]);
     } else {
-        copy_short(source, target);
+        numbers::copy(source, target);
     }
 }
 

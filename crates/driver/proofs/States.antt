@@ -5,7 +5,7 @@ use Prim.Native.Nat.{ℕ, suc, _+_, _-_, _*_, _≤_, _<_, min}
 use mathlib.Core.Path.{_≡_, refl, ap, _∙_, sym, subst}
 use mathlib.Core.Logic.{_≢_}
 use mathlib.Core.Bool.{Bool, true, false}
-use mathlib.Core.List.{List, [], _∷_, _++_, append-nil}
+use mathlib.Core.List.{List, [], _∷_, _++_, append-nil, map}
 use native.Mathlib.Numerals.{add-one}
 use native.Mathlib.Omega.{arith}
 use lib.Dec.{leb, ltb, eqb}
@@ -19,11 +19,15 @@ use Rattle.text.specs.declared.Text.{Text}
 use Rattle.text.specs.Said.{said, Longer}
 use Rattle.text.proofs.Texts.{then, renamed}
 use Rattle.session.specs.declared.Reassembly.{Reassembly}
+use Rattle.frame.specs.declared.SessionId.{SessionId}
 use Rattle.session.specs.declared.Row.{Row}
 use Rattle.session.specs.Rows.{noRow, noReassembly}
 use Rattle.link.specs.declared.Link.{Link}
 use Rattle.link.specs.State.{indexOf, ownerOf}
-use Rattle.link.proofs.Table.{index-here, index-later, index-none}
+use Rattle.state.specs.Layout.{linkOf, rowIn}
+use Rattle.state.proofs.Rows.{row-of-link}
+use Rattle.rules.specs.Parts.{indexIn}
+use Rattle.rules.proofs.Ids.{index-ids}
 use Rattle.driver.specs.Spelling.{joined, orDash}
 use Rattle.driver.specs.States.{blocksFrom, messageText, serviceAt, messagesFrom, sessionText, withSession, sessionsFrom}
 
@@ -185,56 +189,54 @@ session-turn link id s h =
     let z : 255 - id ≡ suc (255 - (id + 1)) = omega arith in
     rw (z, add-one id)
 
--- the list of sessions of any link with these rows and owners
-abbrev pub Sessions : Text → List Row → List ℕ → ℕ → Text → Type 0
-Sessions t rows owners id u =
-    (link : Link) → link .rows ≡ rows → link .owners ≡ owners → Listing t (sessionsFrom link (suc id) (255 - id)) (sessionsFrom link 1 255 []) u
+-- a session's text behind a mark, by the row and the owners that were read off a state
+pub session-read : (mark s : List ℕ) (i : ℕ) {row : Row} {owners : List ℕ} {t r : Text} → row ≡ rowIn s i → owners ≡ linkOf s .owners
+    → Longer t (mark ++ sessionText row i owners) r → Longer t (mark ++ sessionText (rowIn s i) i (linkOf s .owners)) r
+session-read mark s i {row} {owners} e f g =
+    renamed (ap (λ (x : Row). mark ++ sessionText x i owners) e ∙ ap (λ (o : List ℕ). mark ++ sessionText (rowIn s i) i o) f) g
 
-module _ {t : Text} (rows : List Row) (owners : List ℕ) (id : ℕ) {u : Text} (i : Sessions t rows owners id u) where
-  after-id : {k : ℕ} → id < 255 → k ≡ indexOf (id + 1) rows → (hit : Bool) → ltb k 8 ≡ hit → (link : Link) (e : link .rows ≡ rows) (f : link .owners ≡ owners)
-      → let s : List ℕ = i link e f .parts in
-      sessionsFrom link (suc (id + 1)) (255 - (id + 1)) (pick hit (joined 59 s (sessionText (getD rows k noRow) k owners)) s) ≡ sessionsFrom link 1 255 []
-  after-id {k} h q hit y link e f =
-      let s : List ℕ = i link e f .parts in
-      let after : List ℕ → List ℕ = sessionsFrom link (suc (id + 1)) (255 - (id + 1)) in
-      ap (λ (b : Bool). after (pick b (joined 59 s (sessionText (getD rows k noRow) k owners)) s)) (sym y)
-      ∙ ap (λ (r : List Row). after (pick (ltb k 8) (joined 59 s (sessionText (getD r k noRow) k owners)) s)) (sym e)
-      ∙ ap (λ (o : List ℕ). after (pick (ltb k 8) (joined 59 s (sessionText (getD (link .rows) k noRow) k o)) s)) (sym f)
-      ∙ ap (λ (n : ℕ). after (withSession link n s)) (q ∙ ap (indexOf (id + 1)) (sym e))
-      ∙ session-turn link id s h
-      ∙ i link e f .leads
+-- the sessions of a state so far
+abbrev pub Sessions : Text → List ℕ → ℕ → Text → Type 0
+Sessions t s id u = Listing t (sessionsFrom (linkOf s) (suc id) (255 - id)) (sessionsFrom (linkOf s) 1 255 []) u
+
+-- where an id stands among the ids is where it stands among the rows
+pub found-in : (s : List ℕ) (id : ℕ) {ids : List SessionId} {k : ℕ} → ids ≡ map (λ (r : Row). r .id) (linkOf s .rows) → k ≡ indexIn (record { 0 = id }) ids
+    → k ≡ indexOf id (linkOf s .rows)
+found-in s id e f = f ∙ ap (indexIn (record { 0 = id })) e ∙ index-ids (record { 0 = id }) (linkOf s .rows)
+
+module _ {t : Text} (s : List ℕ) (id : ℕ) {u : Text} (i : Sessions t s id u) where
+  -- what is left behind this id, if row k has it and if none has
+  after-id : {k : ℕ} → id < 255 → k ≡ indexOf (id + 1) (linkOf s .rows) → (hit : Bool) → ltb k 8 ≡ hit
+      → let row = sessionText (getD (linkOf s .rows) k noRow) k (linkOf s .owners) in
+      sessionsFrom (linkOf s) (suc (id + 1)) (255 - (id + 1)) (pick hit (joined 59 (i .parts) row) (i .parts)) ≡ sessionsFrom (linkOf s) 1 255 []
+  after-id {k} h q hit y =
+      let row : List ℕ = sessionText (getD (linkOf s .rows) k noRow) k (linkOf s .owners) in
+      let after : List ℕ → List ℕ = sessionsFrom (linkOf s) (suc (id + 1)) (255 - (id + 1)) in
+      ap (λ (b : Bool). after (pick b (joined 59 (i .parts) row) (i .parts))) (sym y)
+      ∙ ap (λ (n : ℕ). after (withSession (linkOf s) n (i .parts))) q
+      ∙ session-turn (linkOf s) id (i .parts) h
+      ∙ i .leads
 
   -- no row has this id
-  pub id-passed : {k : ℕ} → id < 255 → k ≡ indexOf (id + 1) rows → 8 ≤ k → Sessions t rows owners (id + 1) u
-  id-passed {k} h q n link e f = record { parts = i link e f .parts; has = i link e f .has; leads = after-id h q false (le-ltb k 8 n) link e f }
+  pub id-passed : {k : ℕ} → id < 255 → k ≡ indexOf (id + 1) (linkOf s .rows) → 8 ≤ k → Sessions t s (id + 1) u
+  id-passed {k} h q n = record { parts = i .parts; has = i .has; leads = after-id h q false (le-ltb k 8 n) }
 
-  pub session-listed : {k : ℕ} {w : Text} → length (t .chars) ≡ 4096 → id < 255 → k ≡ indexOf (id + 1) rows → k < 8
-      → Longer u (pick (leb (u .end) (t .end)) [] (59 ∷ []) ++ sessionText (getD rows k noRow) k owners) w → Sessions t rows owners (id + 1) w
-  session-listed {k} l h q n g link e f =
+  pub session-listed : {k : ℕ} {w : Text} → length (t .chars) ≡ 4096 → id < 255 → k ≡ indexOf (id + 1) (linkOf s .rows) → k < 8
+      → Longer u (pick (leb (u .end) (t .end)) [] (59 ∷ []) ++ sessionText (rowIn s k) k (linkOf s .owners)) w → Sessions t s (id + 1) w
+  session-listed {k} l h q n g =
+      let said : List ℕ = sessionText (rowIn s k) k (linkOf s .owners) in
+      let after : List ℕ → List ℕ = sessionsFrom (linkOf s) (suc (id + 1)) (255 - (id + 1)) in
+      let read : rowIn s k ≡ getD (linkOf s .rows) k noRow = sym (row-of-link s noRow k n) in
       record {
-        parts = joined 59 (i link e f .parts) (sessionText (getD rows k noRow) k owners);
-        has = some (joins l 59 (sessionText (getD rows k noRow) k owners) (i link e f .has) g);
-        leads = after-id h q true (lt-ltb k 8 n) link e f;
+        parts = joined 59 (i .parts) said;
+        has = some (joins l 59 said (i .has) g);
+        leads = ap (λ (r : Row). after (joined 59 (i .parts) (sessionText r k (linkOf s .owners)))) read ∙ after-id h q true (lt-ltb k 8 n);
       }
 
   pub sessions-end : {r : Text} → length (t .chars) ≡ 4096 → 255 ≤ id → Longer u (pick (leb (u .end) (t .end)) (45 ∷ []) []) r
-      → (link : Link) → link .rows ≡ rows → link .owners ≡ owners → Longer t (orDash (sessionsFrom link 1 255 [])) r
+      → Longer t (orDash (sessionsFrom (linkOf s) 1 255 [])) r
   unfolding sessionsFrom
-  sessions-end l h g link e f =
+  sessions-end l h g =
       let z : 255 - id ≡ 0 = omega arith in
-      let q : i link e f .parts ≡ sessionsFrom link (suc id) (255 - id) (i link e f .parts) = rw z in
-      renamed (ap orDash (q ∙ i link e f .leads)) (ends-list l (i link e f .has) g)
-
--- ---- where an id stands
-
-pub row-hit : (id : ℕ) (rows : List Row) (i : ℕ) → i < length rows → getD rows i noRow .id .0 ≡ id → indexOf id (drop i rows) ≡ 0
-row-hit id rows i h e = ap (indexOf id) (drop-cons rows i noRow h) ∙ index-here id (getD rows i noRow) (drop (suc i) rows) e
-
-pub row-pass : (id : ℕ) (rows : List Row) (i : ℕ) → i < length rows → getD rows i noRow .id .0 ≢ id → indexOf id (drop i rows) ≡ suc (indexOf id (drop (i + 1) rows))
-row-pass id rows i h n =
-    ap (indexOf id) (drop-cons rows i noRow h)
-    ∙ index-later id (getD rows i noRow) (drop (suc i) rows) n
-    ∙ ap (λ (k : ℕ). suc (indexOf id (drop k rows))) (sym (add-one i))
-
-pub row-end : (id : ℕ) (rows : List Row) (i : ℕ) → length rows ≤ i → indexOf id (drop i rows) ≡ 0
-row-end id rows i h = ap (indexOf id) (drop-of-length-le rows {i = i} h) ∙ index-none id
+      let q : i .parts ≡ sessionsFrom (linkOf s) (suc id) (255 - id) (i .parts) = rw z in
+      renamed (ap orDash (q ∙ i .leads)) (ends-list l (i .has) g)

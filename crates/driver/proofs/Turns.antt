@@ -12,14 +12,12 @@ use Rattle.text.specs.declared.Text.{Text}
 use Rattle.text.specs.Said.{Started, Longer}
 use Rattle.words.specs.declared.Command.{Command}
 use Rattle.payload.specs.declared.version.Version.{Version}
-use Rattle.link.specs.declared.Link.{Link}
 use Rattle.link.specs.declared.Grant.{Grant}
 use Rattle.link.specs.declared.Answer.{Answer}
 use Rattle.link.specs.declared.Answer.the-variants as answer
-use Rattle.link.specs.Call.{callOf}
-use Rattle.link.specs.Values.{valuesOf, Outcome, outcomeOf}
-use Rattle.headunit.specs.declared.Created.{Created}
-use Rattle.headunit.specs.Unit.{creationOf}
+use Rattle.link.specs.Values.{valuesOf}
+use Rattle.state.specs.Layout.{linkOf}
+use Rattle.state.specs.Calls.{callIn, Told, toldOf, Made, createIn}
 use Rattle.driver.specs.Spelling.{Holds, withHex, letterAnd, textLine}
 use Rattle.driver.specs.Answers.{untouchedOut, lentOut, wideAt}
 use Rattle.driver.specs.States.{stateText}
@@ -64,22 +62,25 @@ module _ {r : Text} {n k m l : ℕ} (h : Holds (withHex (letterAnd 87 n) k) r) (
   beat-held e = answer-held e reply-held
 
 -- what `new` leaves
-pub new-is : (c : Command) (pool : List ℕ) {v : Version} {mtu : ℕ} {made : Created} {p w : List ℕ} {t : Text} → v ≡ versionOf c → mtu ≡ wideAt c 3 → made ≡ creationOf v mtu
-    → p ≡ newPool pool → Started (createdText (made .refused)) t → w ≡ textLine t [] → leaving (eqb (made .refused) 0) (made .link) p w ≡ newOf c pool
-new-is c pool {v} {mtu} {made} {p} {w} {t} e f g h s l =
-    ap (λ (x : List ℕ). leaving (eqb (made .refused) 0) (made .link) x w) h
-    ∙ ap (leaving (eqb (made .refused) 0) (made .link) (newPool pool)) (l ∙ line-held (held s) [])
-    ∙ ap (newBy pool) (g ∙ ap (λ (x : Version). creationOf x mtu) e ∙ ap (creationOf (versionOf c)) f)
+pub new-is : (c : Command) (state pool : List ℕ) {v : Version} {mtu : ℕ} {m : Made} {p w : List ℕ} {t : Text}
+    → v ≡ versionOf c → mtu ≡ wideAt c 3 → m ≡ createIn state v mtu → p ≡ newPool pool → Started (createdText (m .refused)) t → w ≡ textLine t []
+    → leaving (eqb (m .refused) 0) (m .state) p w ≡ newOf c state pool
+new-is c state pool {v} {mtu} {m} {p} {w} {t} e f g h s l =
+    ap (λ (x : List ℕ). leaving (eqb (m .refused) 0) (m .state) x w) h
+    ∙ ap (leaving (eqb (m .refused) 0) (m .state) (newPool pool)) (l ∙ line-held (held s) [])
+    ∙ ap (newBy pool) (g ∙ ap (λ (x : Version). createIn state x mtu) e ∙ ap (createIn state (versionOf c)) f)
 
 -- what a call leaves, spelled: its answer, the checks, the state
-pub called-is : (o : Outcome) {w : List ℕ} {t u r : Text} → Holds (answerLine (o .values)) t → Longer t (checksText (o .out) (o .pool)) u → Longer u (stateText (o .link)) r
-    → w ≡ textLine r (o .out) → leaving true (o .link) (o .pool) w ≡ calledBy o
-called-is o h f g l = ap (leaving true (o .link) (o .pool)) (l ∙ line-held (held-more (held-more h f) g) (o .out))
+pub called-is : (o : Told) {w : List ℕ} {t u r : Text} → Holds (answerLine (o .values)) t → Longer t (checksText (o .out) (o .pool)) u
+    → Longer u (stateText (linkOf (o .state))) r → w ≡ textLine r (o .out) → leaving true (o .state) (o .pool) w ≡ calledBy o
+called-is o h f g l = ap (leaving true (o .state) (o .pool)) (l ∙ line-held (held-more (held-more h f) g) (o .out))
 
 -- what a call with an out buffer leaves, and one with the buffer that is lent
-module _ (l : Link) (c : Command) (input pool out : List ℕ) where
-  pub call-is : {g : Grant} {o : Outcome} {t : Left} → g ≡ grantOf c → o ≡ outcomeOf (callOf l pool input out g) → t ≡ calledBy o → t ≡ calledOf l c input pool out
-  call-is e f h = h ∙ ap calledBy (f ∙ ap (λ (x : Grant). outcomeOf (callOf l pool input out x)) e)
+module _ (c : Command) (input state pool out : List ℕ) where
+  pub call-is : {g : Grant} {o : Told} {t : Left} → g ≡ grantOf c → o ≡ toldOf (callIn state pool input out g) → t ≡ calledBy o
+      → t ≡ calledOf c input state pool out
+  call-is e f h = h ∙ ap calledBy (f ∙ ap (λ (x : Grant). toldOf (callIn state pool input out x)) e)
 
-  pub lent-call-is : {n : ℕ} {t : Left} → out ≡ untouchedOut → n ≡ min (c .lent) 131084 → t ≡ calledOf l c input pool (take (n - 0) out) → t ≡ calledOf l c input pool (lentOut c)
-  lent-call-is e f h = h ∙ ap (calledOf l c input pool) (lent-front (c .lent) e f)
+  pub lent-call-is : {n : ℕ} {t : Left} → out ≡ untouchedOut → n ≡ min (c .lent) 131084 → t ≡ calledOf c input state pool (take (n - 0) out)
+      → t ≡ calledOf c input state pool (lentOut c)
+  lent-call-is e f h = h ∙ ap (calledOf c input state pool) (lent-front (c .lent) e f)

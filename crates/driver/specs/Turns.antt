@@ -1,7 +1,7 @@
--- What a whole line does: the link, the pool and the line that answers it; docs/DRIVER.md, `new` and `call`. What these calls do is `creationOf`
--- (headunit/specs/Unit) and `callOf` (link/specs/Call), its answer by number and values (link/specs/Values). Assumes nothing.
+-- What a whole line does: the link's state, the pool and the line that answers it; docs/DRIVER.md, `new` and `call`. What these calls do is `createIn` and
+-- `callIn` (state/specs/Calls), a call's answer by number and values (link/specs/Values). Assumes nothing.
 use Prim.Native.Nat.{ℕ, zero, suc, _+_, _%_}
-use mathlib.Core.Bool.{Bool, true, _&&_}
+use mathlib.Core.Bool.{Bool, true, false, _&&_}
 use mathlib.Core.List.{List, [], _∷_, _++_}
 use lib.Dec.{eqb}
 use lib.ListN.{length, take}
@@ -11,30 +11,32 @@ use Rattle.lines.specs.Decimal.{decimalOf}
 use Rattle.text.specs.Pieces.{checkOf}
 use Rattle.words.specs.declared.Command.{Command}
 use Rattle.payload.specs.declared.version.Version.{Version}
-use Rattle.link.specs.declared.Link.{Link}
 use Rattle.link.specs.declared.Grant.{Grant}
-use Rattle.link.specs.Call.{callOf}
-use Rattle.link.specs.Values.{Kind, short, refused, reply, silent, delivery, Values, serviceBytes, Outcome, outcomeOf}
-use Rattle.headunit.specs.declared.Created.{Created}
-use Rattle.headunit.specs.Unit.{creationOf}
-use Rattle.driver.specs.declared.calls.Unit as Units
+use Rattle.link.specs.Values.{Kind, short, refused, reply, silent, delivery, Values, serviceBytes}
+use Rattle.state.specs.Layout.{linkOf}
+use Rattle.state.specs.Calls.{callIn, Told, toldOf, Made, createIn}
 use Rattle.driver.specs.declared.calls.Turn as Turns
 use Rattle.driver.specs.Spelling.{Spelled, plain, withHex, behind, lineOf, letterAnd, refusedText}
 use Rattle.driver.specs.Answers.{byteAt, halfAt, wideAt, lentOut, plainLine, answerTo}
 use Rattle.driver.specs.States.{stateText}
 
--- what a line leaves: whether there is a link and which, the pool, and the characters that are written
+-- what a line leaves: whether there is a link, its state's bytes, the pool, and the characters that are written
 pub record Left : Type 0 where
-  pub unit : Units.Unit
+  pub linked : Bool
+  pub state : List ℕ
   pub pool : List ℕ
   pub written : List ℕ
 
-abbrev pub leaving : Bool → Link → List ℕ → List ℕ → Left
-leaving linked link pool written = record { unit = record { linked = linked; link = link }; pool = pool; written = written }
+abbrev pub leaving : Bool → List ℕ → List ℕ → List ℕ → Left
+leaving linked state pool written = record { linked = linked; state = state; pool = pool; written = written }
 
 -- the same, as the code answers it: so many characters at the front of the line buffer
-abbrev pub left : Turns.Turn → List ℕ → List ℕ → Left
-left t pool line = record { unit = t .unit; pool = pool; written = take (t .count) line }
+abbrev pub left : Turns.Turn → List ℕ → List ℕ → List ℕ → Left
+left t state pool line = leaving (t .linked) state pool (take (t .count) line)
+
+-- before the first line there is no link, and nothing is written
+abbrev pub noTurn : Turns.Turn
+noTurn = record { linked = false; count = 0 }
 
 -- ---- new M m p MTU
 
@@ -54,11 +56,11 @@ abbrev pub createdText : ℕ → List ℕ
 createdText number = pick (eqb number 0) (111 ∷ 107 ∷ []) (refusedText number)
 
 -- "the link and its pool are replaced"; after `R 10` there is none
-abbrev pub newBy : List ℕ → Created → Left
-newBy pool c = leaving (eqb (c .refused) 0) (c .link) (newPool pool) (plainLine (createdText (c .refused)))
+abbrev pub newBy : List ℕ → Made → Left
+newBy pool m = leaving (eqb (m .refused) 0) (m .state) (newPool pool) (plainLine (createdText (m .refused)))
 
-abbrev pub newOf : Command → List ℕ → Left
-newOf c pool = newBy pool (creationOf (versionOf c) (wideAt c 3))
+abbrev pub newOf : Command → List ℕ → List ℕ → Left
+newOf c state pool = newBy pool (createIn state (versionOf c) (wideAt c 3))
 
 -- ---- call G C HASH OUTLEN HEX
 
@@ -83,18 +85,18 @@ checksText out pool =
     ++ (decimalOf (checkOf out) ++ ((32 ∷ 112 ∷ 111 ∷ 111 ∷ 108 ∷ 61 ∷ []) ++ (decimalOf (checkOf pool) ++ 32 ∷ [])))
 
 -- "ANSWER out=CHECK pool=CHECK STATE"
-abbrev pub calledLine : Outcome → Spelled
-calledLine o = behind (behind (answerLine (o .values)) (checksText (o .out) (o .pool))) (stateText (o .link))
+abbrev pub calledLine : Told → Spelled
+calledLine t = behind (behind (answerLine (t .values)) (checksText (t .out) (t .pool))) (stateText (linkOf (t .state)))
 
-abbrev pub calledBy : Outcome → Left
-calledBy o = leaving true (o .link) (o .pool) (lineOf (calledLine o) (o .out))
+abbrev pub calledBy : Told → Left
+calledBy t = leaving true (t .state) (t .pool) (lineOf (calledLine t) (t .out))
 
-abbrev pub calledOf : Link → Command → List ℕ → List ℕ → List ℕ → Left
-calledOf l c input pool out = calledBy (outcomeOf (callOf l pool input out (grantOf c)))
+abbrev pub calledOf : Command → List ℕ → List ℕ → List ℕ → List ℕ → Left
+calledOf c input state pool out = calledBy (toldOf (callIn state pool input out (grantOf c)))
 
 -- ---- any line: "`call` is answered `?` where there is no link"
-unfoldable pub turnOf : Units.Unit → Command → List ℕ → List ℕ → Left
-turnOf u c content pool =
-    pick (eqb (c .kind) 5) (newOf c pool)
-    (pick (eqb (c .kind) 6 && u .linked) (calledOf (u .link) c (take (c .count) content) pool (lentOut c))
-    (leaving (u .linked) (u .link) pool (answerTo c (take (c .count) content))))
+unfoldable pub turnOf : Bool → Command → List ℕ → List ℕ → List ℕ → Left
+turnOf linked c content state pool =
+    pick (eqb (c .kind) 5) (newOf c state pool)
+    (pick (eqb (c .kind) 6 && linked) (calledOf c (take (c .count) content) state pool (lentOut c))
+    (leaving linked state pool (answerTo c (take (c .count) content))))

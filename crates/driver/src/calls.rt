@@ -1,56 +1,40 @@
-// The commands `new` and `call`: they make the link, or call it. Whoever reads the lines keeps the link between them; the pool is lent.
-// It assumes nothing of the line and nothing of the link. No rule of the protocol stands here.
+// The commands `new` and `call`: they make the link, or call it. Whoever reads the lines keeps whether there is one; its state and the pool are lent.
+// It assumes nothing of the line and nothing of the state. No rule of the protocol stands here.
 ghost use mathlib.Core.Path.{_≡_};
-ghost use mathlib.Core.Bool.{false};
 ghost use Rattle.text.specs.Said.{Started, Longer};
 ghost use Rattle.link.specs.declared.Answer.the-variants.{Delivered};
-ghost use Rattle.link.specs.Values.{valuesOf, outcomeOf};
-ghost use Rattle.headunit.specs.Unit.{leaves};
+ghost use Rattle.link.specs.Values.{valuesOf};
+ghost use Rattle.state.specs.Calls.{left as leftBy, toldOf};
 ghost use Rattle.driver.specs.Spelling.{Holds, withHex, letterAnd};
 ghost use Rattle.driver.specs.Answers.{lentOut};
-ghost use Rattle.driver.specs.Turns.{left, newPool, versionOf, createdText, newOf, grantOf, answerLine, checksText, calledBy, calledOf};
+ghost use Rattle.driver.specs.Turns.{left, noTurn, newPool, versionOf, createdText, newOf, grantOf, answerLine, checksText, calledBy, calledOf};
 use crate::output;
 use crate::sessions;
 use frame::ServiceType;
-use headunit::Called;
 use link::Answer;
 use link::Grant;
-use link::Link;
 use output::OUTLEN;
 use output::ROOM;
 use payload::version::Version;
+use state::LENGTH;
 use text::Text;
 use words::Command;
 
 const POOL: usize = 65536;
 
-// What is carried from one line to the next.
-pub struct Unit {
-    // there is a link
-    pub linked: bool,
-    pub link: Link,
-}
-
-// What a line gives back: its answer stands at the front of the line buffer, so many characters.
+// What a line gives back: whether there is a link after it, and its answer, so many characters at the front of the line buffer.
 pub struct Turn {
-    pub unit: Unit,
+    pub linked: bool,
     pub count: usize,
 }
 
-// Before the first `new` there is no link; this one is never called.
-pub fn no_unit() -> Unit
-    ensures { λ r. ⌜ r .linked ≡ false ⌝ }
+// Before the first line there is no link, and nothing is answered.
+pub fn no_turn() -> Turn
+    ensures { λ r. ⌜ r ≡ noTurn ⌝ }
 {
-    let version = Version {
-        major: 0,
-        minor: 0,
-        patch: 0,
-    };
-    let created = headunit::create(version, 0);
-    let link = created.link;
-    Unit {
+    Turn {
         linked: false,
-        link,
+        count: 0,
     }
 }
 
@@ -87,19 +71,21 @@ fn version_of(command: Command) -> Version
 }
 
 // new M m p MTU
-pub fn new(command: Command, pool: &mut [u8; POOL], line: &mut [u8; ROOM]) -> Turn
-    ensures { λ r. ⌜ left r (now (pool .exit)) (now (line .exit)) ≡ newOf command (now (pool .entry)) ⌝ }
+pub fn new(
+    command: Command,
+    link: &mut [u8; LENGTH],
+    pool: &mut [u8; POOL],
+    line: &mut [u8; ROOM],
+) -> Turn
+    ensures { λ r. ⌜ left r (now (link .exit)) (now (pool .exit)) (now (line .exit)) ≡ newOf command (now (link .entry)) (now (pool .entry)) ⌝ }
 {
-    let created = headunit::create(version_of(command), command.wide(3));
-    let refused = created.refused;
-    let link = created.link;
+    let refused = headunit::create(link, version_of(command), command.wide(3));
     fill_pool(pool);
     let count = output::lay_plain(created_text(refused), line);
-    let unit = Unit {
+    Turn {
         linked: refused == 0,
-        link,
-    };
-    Turn { unit, count }
+        count,
+    }
 }
 
 // W, the bytes consumed, and the bytes that a call wrote.
@@ -141,15 +127,21 @@ fn with_checks(text: Text, out: &[u8], pool: &[u8]) -> Text
 }
 
 // Spells what a call left: answer, out, pool, state.
-fn spell_called(called: Called, out: &[u8], pool: &[u8], line: &mut [u8; ROOM]) -> Turn
-    ensures { λ r. ⌜ left r (now (pool .entry)) (now (line .exit)) ≡ calledBy (outcomeOf (leaves called (now (pool .entry)) (now (out .entry)))) ⌝ }
+fn spell_called(
+    answer: Answer,
+    link: &[u8; LENGTH],
+    out: &[u8],
+    pool: &[u8],
+    line: &mut [u8; ROOM],
+) -> Turn
+    ensures { λ r. ⌜ left r (now (link .entry)) (now (pool .entry)) (now (line .exit)) ≡ calledBy (toldOf (leftBy answer (now (link .entry)) (now (pool .entry)) (now (out .entry)))) ⌝ }
 {
-    let answer = called.answer;
-    let link = called.link;
     let text = with_checks(answer_text(answer), out, pool);
     let count = output::lay(sessions::with_sessions(text, link), out, line);
-    let unit = Unit { linked: true, link };
-    Turn { unit, count }
+    Turn {
+        linked: true,
+        count,
+    }
 }
 
 fn grant_of(command: Command) -> Grant
@@ -164,30 +156,30 @@ fn grant_of(command: Command) -> Grant
 
 // The call with an out buffer.
 fn call_into(
-    link: Link,
     command: Command,
     input: &[u8],
+    link: &mut [u8; LENGTH],
     pool: &mut [u8; POOL],
     out: &mut [u8],
     line: &mut [u8; ROOM],
 ) -> Turn
-    ensures { λ r. ⌜ left r (now (pool .exit)) (now (line .exit)) ≡ calledOf link command (now (input .entry)) (now (pool .entry)) (now (out .entry)) ⌝ }
+    ensures { λ r. ⌜ left r (now (link .exit)) (now (pool .exit)) (now (line .exit)) ≡ calledOf command (now (input .entry)) (now (link .entry)) (now (pool .entry)) (now (out .entry)) ⌝ }
 {
-    let called = headunit::call(link, pool, input, out, grant_of(command));
-    spell_called(called, out, pool, line)
+    let answer = headunit::call(link, pool, input, out, grant_of(command));
+    spell_called(answer, link, out, pool, line)
 }
 
 // call G C HASH OUTLEN HEX
 pub fn call(
-    link: Link,
     command: Command,
     input: &[u8],
+    link: &mut [u8; LENGTH],
     pool: &mut [u8; POOL],
     line: &mut [u8; ROOM],
 ) -> Turn
-    ensures { λ r. ⌜ left r (now (pool .exit)) (now (line .exit)) ≡ calledOf link command (now (input .entry)) (now (pool .entry)) (lentOut command) ⌝ }
+    ensures { λ r. ⌜ left r (now (link .exit)) (now (pool .exit)) (now (line .exit)) ≡ calledOf command (now (input .entry)) (now (link .entry)) (now (pool .entry)) (lentOut command) ⌝ }
 {
     let mut out = output::untouched();
     let lent = numbers::least(command.lent as usize, OUTLEN);
-    call_into(link, command, input, pool, &mut out[0..lent], line)
+    call_into(command, input, link, pool, &mut out[0..lent], line)
 }

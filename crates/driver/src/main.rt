@@ -12,10 +12,10 @@ ghost use Rattle.words.specs.Lines.{leaving};
 ghost use Rattle.driver.specs.Turns.{left, turnOf};
 ghost use Rattle.driver.specs.Input.{gathered, partTaken, begunOf, noInput, readInto, stepOf, lineLength, spokenLine, afterWrite};
 use calls::Turn;
-use calls::Unit;
 use libc::STDIN_FILENO;
 use output::CONTENT;
 use output::ROOM;
+use state::LENGTH;
 use words::Command;
 
 // A line of 300,000 bytes, and one byte more to tell a longer one.
@@ -112,25 +112,25 @@ fn command_of(input: Input, line: &[u8; LINE], content: &mut [u8; CONTENT]) -> C
 
 // Carries out a command and spells its answer at the front of `line`. Its last words' bytes stand at the front of `content`.
 fn obey(
-    unit: Unit,
+    linked: bool,
     command: Command,
     content: &[u8; CONTENT],
+    link: &mut [u8; LENGTH],
     pool: &mut [u8; PIECE],
     line: &mut [u8; ROOM],
 ) -> Turn
-    ensures { λ r. ⌜ left r (now (pool .exit)) (now (line .exit)) ≡ turnOf unit command (now (content .entry)) (now (pool .entry)) ⌝ }
+    ensures { λ r. ⌜ left r (now (link .exit)) (now (pool .exit)) (now (line .exit)) ≡ turnOf linked command (now (content .entry)) (now (link .entry)) (now (pool .entry)) ⌝ }
 {
     let input = text::front(content, command.count);
     let kind = command.kind;
     if kind == words::NEW {
-        return calls::new(command, pool, line);
+        return calls::new(command, link, pool, line);
     }
-    if (kind == words::CALL) & unit.linked {
-        let link = unit.link;
-        return calls::call(link, command, input, pool, line);
+    if (kind == words::CALL) & linked {
+        return calls::call(command, input, link, pool, line);
     }
     let count = commands::obey(command, input, line);
-    Turn { unit, count }
+    Turn { linked, count }
 }
 
 // Before the first piece nothing is at hand.
@@ -159,18 +159,25 @@ fn main() {
     let mut piece = io::large_buffer();
     let mut line = line_buffer();
     let mut content = content_buffer();
+    let mut link = [0u8; LENGTH];
     let mut pool = io::large_buffer();
     let mut answer = output::line_buffer();
     let mut input = begin();
-    let mut unit = calls::no_unit();
+    let mut turn = calls::no_turn();
     let mut turns = u64::MAX;
     while turns > 0 && input.more {
         input = step(begun(input), &mut piece, &mut line);
         let command = command_of(input, &line, &mut content);
-        let turn = obey(unit, command, &content, &mut pool, &mut answer);
+        turn = obey(
+            turn.linked,
+            command,
+            &content,
+            &mut link,
+            &mut pool,
+            &mut answer,
+        );
         let taken = output::write(&answer, turn.count);
         input = after_write(input, taken);
-        unit = turn.unit;
         turns -= 1;
     }
 }

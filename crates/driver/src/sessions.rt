@@ -1,31 +1,30 @@
-// The open sessions of a link as text: the STATE of docs/DRIVER.md. Its layout is that of link's `Link` and session's `Row`.
-// It assumes nothing of the link.
+// The open sessions of a link as text: the STATE of docs/DRIVER.md. They are read off the link's state, a row at a time.
+// It assumes nothing of the state.
 ghost use Prim.Native.Nat.{_<_};
-ghost use mathlib.Core.Path.{_≡_};
-ghost use mathlib.Core.List.{List, [], _∷_, _++_};
+ghost use mathlib.Core.List.{[], _∷_, _++_};
 ghost use lib.Dec.{leb};
 ghost use Rattle.numbers.specs.Bytes.{pick};
 ghost use Rattle.text.specs.Said.{Longer};
-ghost use Rattle.link.specs.State.{indexOf};
+ghost use Rattle.state.specs.Layout.{linkOf, rowIn};
 ghost use Rattle.driver.specs.States.{blocksText, countsText, messageText, messagesText, serviceText, runningText, servicesText, rowNumbers, sessionText, stateText};
 use frame::SessionId;
-use link::Link;
 use session::Reassembly;
 use session::Row;
 use session::Running;
+use state::LENGTH;
 use text::Text;
 
 // The services, by their places in a row.
 const SERVICES: [u8; 5] = [0x00, 0x07, 0x0a, 0x0b, 0x0f];
 
 // The numbers of an owner's blocks, joined by dots.
-fn with_blocks(text: Text, owners: [u8; 256], owner: u8) -> Text
-    ensures { λ r. ⌜ Longer text (blocksText owner owners) r ⌝ }
+fn with_blocks(text: Text, owners: &[u8], owner: u8) -> Text
+    ensures { λ r. ⌜ Longer text (blocksText owner (now (owners .entry))) r ⌝ }
 {
     let start = text.end;
     let mut after = text;
     let mut b: usize = 0;
-    while b < 256 {
+    while b < owners.len() {
         if owners[b] == owner {
             after = after.joint(start, b'.').decimal(b as u64);
         }
@@ -52,10 +51,10 @@ fn with_message(
     start: usize,
     message: Reassembly,
     service: u8,
-    owners: [u8; 256],
+    owners: &[u8],
     owner: u8,
 ) -> Text
-    ensures { λ r. ⌜ Longer text (pick (message .live) (pick (leb (text .end) start) [] (43 ∷ []) ++ messageText message service owners owner) []) r ⌝ }
+    ensures { λ r. ⌜ Longer text (pick (message .live) (pick (leb (text .end) start) [] (43 ∷ []) ++ messageText message service (now (owners .entry)) owner) []) r ⌝ }
 {
     if message.live {
         let listed = text.joint(start, b'+').pair(service);
@@ -65,9 +64,9 @@ fn with_message(
 }
 
 // The open messages of row i; the blocks of its message at a place have the owner 1 + 5 * i + place.
-fn with_messages(text: Text, row: Row, i: usize, owners: [u8; 256]) -> Text
+fn with_messages(text: Text, row: Row, i: usize, owners: &[u8]) -> Text
     requires { ⌜ i < 8 ⌝ }
-    ensures { λ r. ⌜ Longer text (messagesText i owners (row .messages)) r ⌝ }
+    ensures { λ r. ⌜ Longer text (messagesText i (now (owners .entry)) (row .messages)) r ⌝ }
 {
     let messages = row.messages;
     let start = text.end;
@@ -127,44 +126,30 @@ fn with_numbers(text: Text, row: Row) -> Text
 }
 
 // Row i in a list that begins at `start`: id,G,C,version,next,services,held,messages
-fn with_session(text: Text, start: usize, row: Row, i: usize, owners: [u8; 256]) -> Text
+fn with_session(text: Text, start: usize, link: &[u8; LENGTH], i: usize) -> Text
     requires { ⌜ i < 8 ⌝ }
-    ensures { λ r. ⌜ Longer text (pick (leb (text .end) start) [] (59 ∷ []) ++ sessionText row i owners) r ⌝ }
+    ensures { λ r. ⌜ Longer text (pick (leb (text .end) start) [] (59 ∷ []) ++ sessionText (rowIn (now (link .entry)) i) i (linkOf (now (link .entry)) .owners)) r ⌝ }
 {
+    let row = state::row_at(link, i);
     let numbers = with_numbers(text.joint(start, b';'), row);
     let services = with_services(numbers, row);
     let held = services.number(b',', session::held(row) as u64);
-    with_messages(held.byte(b','), row, i, owners)
-}
-
-// The row with an id; 8 if there is none.
-fn row_of(rows: [Row; 8], id: SessionId) -> usize
-    ensures { λ r. ⌜ r ≡ indexOf (id .0) rows ⌝ }
-{
-    let mut i: usize = 0;
-    while i < 8 {
-        if rows[i].id.0 == id.0 {
-            return i;
-        }
-        i += 1;
-    }
-    8
+    with_messages(held.byte(b','), row, i, state::owners(link))
 }
 
 // The open sessions by rising id, joined by semicolons.
-pub fn with_sessions(text: Text, link: Link) -> Text
-    ensures { λ r. ⌜ Longer text (stateText link) r ⌝ }
+pub fn with_sessions(text: Text, link: &[u8; LENGTH]) -> Text
+    ensures { λ r. ⌜ Longer text (stateText (linkOf (now (link .entry)))) r ⌝ }
 {
-    let rows = link.rows;
-    let owners = link.owners;
+    let ids = state::ids(link);
     let start = text.end;
     let mut after = text;
     let mut id: u8 = 0;
     while id < 255 {
         id += 1;
-        let i = row_of(rows, SessionId(id));
+        let i = rules::index_of(ids, SessionId(id));
         if i < 8 {
-            after = with_session(after, start, rows[i], i, owners);
+            after = with_session(after, start, link, i);
         }
     }
     after.listed(start)

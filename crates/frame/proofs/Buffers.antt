@@ -7,7 +7,7 @@ use native.Mathlib.Omega.{arith}
 use lib.Dec.{leb}
 use borrow.Author.Tests.{leb-true, leb-false, eq-eqb, ne-eqb}
 use lib.ListN.{length, take, drop, set, length-append, length-take, length-drop, drop-of-length-le}
-use lib.Seq.{paste, take-all, take-at, take-nil, drop-append-add, drop-drop}
+use lib.Seq.{paste, take-all, take-at, take-nil, length-take-le, drop-append-add, drop-drop}
 use borrow.Rule.Slice.PartMut.{putMid}
 use Rattle.numbers.specs.Bytes.{part, pick, putAt, laid}
 use Rattle.numbers.specs.Numbers.{bytesBe}
@@ -51,6 +51,18 @@ pub bytes-put : (a b o p q r : List ℕ) (at : ℕ) → length a ≡ at → p �
 bytes-put a b o p q r at l e f g =
     let z : at + length b - at ≡ length b = omega arith in
     laid-more a b o p q at (length b) l refl e (g ∙ rw (z, f, drop-drop))
+
+-- a number there, whose four bytes are lent alone
+pub number-alone : (a : List ℕ) (m at : ℕ) (o p q r : List ℕ) → length a ≡ at → at + 4 ≤ length o → p ≡ laid a o
+    → r ≡ putAt (part p at 4) 0 4 (bytesBe 4 m) → q ≡ putMid at 4 p r → q ≡ laid (a ++ bytesBe 4 m) o
+number-alone a m at o p q r l h e f g =
+    let b : List ℕ = bytesBe 4 m in
+    let n : at + 4 ≤ length p = rw (e, laid-length a o (omega arith)) h in
+    let four : length (part p at 4) ≡ 4 = length-take-le 4 (drop at p) (omega (arith, length-drop at p)) in
+    let z : at + length b - at ≡ 4 = omega (arith, length-be 4 m) in
+    let put : r ≡ b ++ drop 4 (part p at 4) = f ∙ put-fits (part p at 4) 0 4 b (omega arith) ∙ pasted (part p at 4) b 0 4 (length-be 4 m) in
+    let short : length (part p at 4) ≤ 4 = omega arith in
+    bytes-put a b o p q r at l e (put ∙ rw (drop-of-length-le (part p at 4) {i = 4} short) (append-nil b)) (rw z g)
 
 -- the first 8 bytes of a header: four stored one by one, then a number
 pub front-put : (x y z w n : ℕ) (o q : List ℕ) → 8 ≤ length o → q ≡ putAt (set (set (set (set o 0 x) 1 y) 2 z) 3 w) 4 4 (bytesBe 4 n)

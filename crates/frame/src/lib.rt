@@ -230,7 +230,7 @@ fn flag_bit(flag: bool) -> u8
     if flag { 8 } else { 0 }
 }
 
-// The header's bytes to the front of out.
+// The header's bytes to the front of out. The message id's four are lent alone, so that they are written with no test of the length.
 fn put_header(header: Header, out: &mut [u8])
     requires { ⌜ (faultOf header ≡ 0) × (headerSize (header .version) ≤ length (now out)) ⌝ }
     ensures { λ _. ⌜ now (out .exit) ≡ laid (headerBytes header) (now (out .entry)) ⌝ }
@@ -243,7 +243,7 @@ fn put_header(header: Header, out: &mut [u8])
     if header.version == 1 {
         return;
     }
-    numbers::put_be4(out, 8, header.message.0);
+    numbers::put_be4(&mut out[8..12], 0, header.message.0);
 }
 
 // A header alone, to the front of out.
@@ -279,7 +279,7 @@ pub fn write(header: Header, payload: &[u8], out: &mut [u8]) -> Written
         return Written::Refused(refusal::OUT_TOO_SMALL);
     }
     put_header(header, out);
-    bytes::copy(payload, &mut out[start..end]);
+    numbers::copy(payload, &mut out[start..end]);
     Written::Bytes(end)
 }
 

@@ -8,7 +8,7 @@ use mathlib.Core.List.{List, [], _++_, append-nil}
 use native.Mathlib.Omega.{arith}
 use lib.ListN.{length, getD, take, drop, drop-of-length-le}
 use lib.Seq.{take-at}
-use borrow.Author.Tests.{le-leb, leb-true, lt-ltb, ltb-false, eq-eqb, eqb-true, eqb-false, ne-eqb}
+use borrow.Author.Tests.{le-leb, lt-leb, le-ltb, leb-true, lt-ltb, ltb-false, eq-eqb, eqb-true, eqb-false, ne-eqb}
 use borrow.Rule.Slice.PartMut.{putMid}
 use Rattle.numbers.specs.Bytes.{unless, part, laid, putAt}
 use Rattle.numbers.specs.Numbers.{bytesBe}
@@ -60,10 +60,10 @@ use Rattle.link.specs.declared.Link.{Link}
 use Rattle.link.specs.declared.Grant.{Grant}
 use Rattle.link.specs.declared.Answer.the-variants as answer
 use Rattle.link.specs.State.{indexOf, newId, versionAllowed, rowFits, rulesHold, settingsFit, grantFits, guardOf, withRow}
-use Rattle.link.specs.Call.{After, Wish, old, new, bad, wishOfText, wishOfPayload, wishOf, opens, opened, openingBy, saidOf, decisionOf, applied, frameOf, callOf}
+use Rattle.link.specs.Call.{After, after, Wish, old, new, bad, wishOfText, wishOfPayload, wishOf, opens, oldVersion, opened, openingBy, saidOf, decisionOf, applied, frameOf, callOf}
 use Rattle.link.proofs.Guards.{guard-version}
 use Rattle.link.proofs.Table.{index-row}
-use Rattle.link.specs.Reply.{replyHeader, replyBytes, newAck, grantedPayload}
+use Rattle.link.specs.Reply.{replyHeader, replyBytes, rpc, firstMessageId, oldAck, newAck, grantedPayload}
 use Rattle.link.proofs.Replies.{reply-sound}
 use Rattle.headunit.specs.Unit.{Sent, sent, sentOf, countOf, payloadCountOf, repliedWith, Serves}
 use Rattle.headunit.specs.Steps.{Roomy}
@@ -203,6 +203,19 @@ opened-link l i id r q g v w e f k m n =
     ∙ ap (λ (x : Row). withRow l i x) (m ∙ ap (λ (x : ℕ). openedRow id (g .guarantee) (g .cap) x (g .hash)) k ∙ ap (λ (x : SessionId). openedRow x (g .guarantee) (g .cap) w (g .hash)) f)
     ∙ ap (λ (x : ℕ). withRow l x (openedRow (newId (l .rows)) (g .guarantee) (g .cap) w (g .hash))) e
 
+-- the same with its ACK of an old version: n bytes of out are written, o′ is out after it
+pub old-opened : (l : Link) (i consumed : ℕ) (g : Grant) (v w : ℕ) (id : SessionId) (r : Row) (n : ℕ) (o o′ p : List ℕ) → i ≡ indexOf 0 (l .rows)
+    → id ≡ newId (l .rows) → v ≡ min (l .version .major) 4 → w ≡ oldVersion (l .version .major) → r ≡ openedRow id (g .guarantee) (g .cap) w (g .hash)
+    → sent n o′ ≡ sentOf (replyBytes v rpc 0x02 id firstMessageId (bytesBe 4 (g .hash))) o
+    → repliedWith answer.Acked consumed (withRow l i r) p (sent n o′)
+    ≡ opened l p o consumed g (oldVersion (l .version .major)) (oldAck (l .version .major) (newId (l .rows)) (g .hash))
+old-opened l i consumed g v w id r n o o′ p at lowest settled version row written =
+    let major : ℕ = min (l .version .major) 4 in
+    let ack : ℕ → SessionId → Sent = λ x k. sentOf (replyBytes x rpc 0x02 k firstMessageId (bytesBe 4 (g .hash))) o in
+    ap (repliedWith answer.Acked consumed (withRow l i r) p) (written ∙ ap (λ (x : ℕ). ack x id) settled ∙ ap (λ (k : SessionId). ack major k) lowest)
+    ∙ ap (λ (x : Link). repliedWith answer.Acked consumed x p (ack major (newId (l .rows))))
+    (opened-link l i id r (withRow l i r) g w (oldVersion (l .version .major)) at lowest version row refl)
+
 -- the same with its ACK in version 5: n bytes of out are written, o′ is out after it
 pub new-opened : (l : Link) (i consumed : ℕ) (g : Grant) (wish v : Version) (id : SessionId) (r : Row) (q : Link) (n : ℕ) (o o′ p : List ℕ) → i ≡ indexOf 0 (l .rows)
     → id ≡ newId (l .rows) → v ≡ lesserOf (l .version) wish → r ≡ openedRow id (g .guarantee) (g .cap) 5 (g .hash) → q ≡ withRow l i r
@@ -215,9 +228,24 @@ new-opened l i consumed g wish v id r q n o o′ p at lowest settled row link wr
 
 -- Short tells what the reader needs
 pub short-is : (l : Link) (p s o : List ℕ) (g : Grant) (needed : ℕ) → guardOf l (length p) g ≡ true → readOf s ≡ reading.Short needed
-    → _≡_ {A = After} (record { answer = answer.Short needed; link = l; pool = p; out = o }) (callOf l p s o g)
+    → after (answer.Short needed) l p o ≡ callOf l p s o g
 unfolding callOf
 short-is l p s o g needed guard read = rw (guard, read)
+
+-- 10, what the reader refuses, and a frame
+pub out-of-range : (l : Link) (p s o : List ℕ) (g : Grant) → guardOf l (length p) g ≡ false → after (answer.Refused 10) l p o ≡ callOf l p s o g
+unfolding callOf
+out-of-range l p s o g guard = rw guard
+
+pub read-refused : (l : Link) (p s o : List ℕ) (g : Grant) (number : ℕ) → guardOf l (length p) g ≡ true → readOf s ≡ reading.Refused number
+    → after (answer.Refused number) l p o ≡ callOf l p s o g
+unfolding callOf
+read-refused l p s o g number guard read = rw (guard, read)
+
+pub read-frame : (l : Link) (p s o : List ℕ) (g : Grant) (h : Header) (e : Extent) → guardOf l (length p) g ≡ true → readOf s ≡ reading.Frame h e
+    → frameOf l p s o h e g ≡ callOf l p s o g
+unfolding callOf
+read-frame l p s o g h e guard read = rw (guard, read)
 
 -- an accepted payload's version string lies inside it
 pub inside : (s : List ℕ) (t : Tags) → payloadOf s ≡ Accepted t → t .version .found ≡ true → t .version .at + t .version .length ≤ length s
@@ -232,7 +260,12 @@ serves l n g i s h e out guard read at eight below z room =
     let v = guard-version l n g i guard (omega arith) (λ x. z (sym id ∙ x)) in
     (below, (room, (v .0, (v .1, fault-none h (frame-sound s h e read) .service))))
 
--- a frame with room in out: an opening, or one of the session in row i
+-- a frame with too little room in out
+pub frame-small : (l : Link) (p s o : List ℕ) (h : Header) (e : Extent) (g : Grant) → length o < 128 → after (answer.Refused 11) l p o ≡ frameOf l p s o h e g
+unfolding frameOf
+frame-small l p s o h e g room = rw (lt-leb 128 (length o) room)
+
+-- a frame with room in out: an opening, one of the session in row i, or one of no session
 module _ (l : Link) (p s o : List ℕ) (h : Header) (e : Extent) (g : Grant) (payload : List ℕ) (room : 128 ≤ length o) (is : payload ≡ part s (e .start) (e .end - e .start)) where
   pub frame-opens : {x : After} → opens h ≡ true → x ≡ openingBy l p o (e .consumed) g (wishOf (l .version .major) payload) → x ≡ frameOf l p s o h e g
   unfolding frameOf
@@ -242,3 +275,12 @@ module _ (l : Link) (p s o : List ℕ) (h : Header) (e : Extent) (g : Grant) (pa
       → x ≡ applied l i p o h (e .consumed) payload g (decisionOf l i h payload (length o)) → x ≡ frameOf l p s o h e g
   unfolding frameOf
   frame-within i other z at eight below q = q ∙ rw (le-leb 128 (length o) room, other, ne-eqb (h .session .0) 0 z, ← at, eight, lt-ltb i 8 below, is)
+
+  pub frame-nobody : opens h ≡ false → h .session .0 ≡ 0 → after (answer.Refused 12) l p o ≡ frameOf l p s o h e g
+  unfolding frameOf
+  frame-nobody other z = rw (le-leb 128 (length o) room, other, eq-eqb (h .session .0) 0 z)
+
+  pub frame-unknown : (i : ℕ) → opens h ≡ false → (h .session .0 ≡ 0 → ⊥) → i ≡ indexOf (h .session .0) (l .rows) → length (l .rows) ≡ 8 → 8 ≤ i
+      → after (answer.Refused 12) l p o ≡ frameOf l p s o h e g
+  unfolding frameOf
+  frame-unknown i other z at eight above = rw (le-leb 128 (length o) room, other, ne-eqb (h .session .0) 0 z, ← at, eight, le-ltb i 8 above)

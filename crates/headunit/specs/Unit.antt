@@ -1,37 +1,28 @@
--- What creation and a call leave, as the code answers it, and the small definitions of its inner functions. The call itself is `callOf`
--- (link/specs/Call), its answer's number and values are `outcomeOf` (link/specs/Values), creation is `createdLink` (link/specs/State).
+-- Small definitions of the inner functions. The call is `callIn` and creation `createIn` (state/specs/Calls).
 -- Assumes nothing.
 use Prim.Native.Nat.{ℕ, _≤_, _<_}
 use mathlib.Core.Path.{_≡_}
 use mathlib.Core.Bool.{true}
 use mathlib.Core.List.{List}
 use lib.ListN.{length, getD}
-use Rattle.numbers.specs.Bytes.{unless, laid}
+use Rattle.numbers.specs.Bytes.{AreBytes, laid}
 use Rattle.frame.specs.declared.Header.{Header}
 use Rattle.frame.specs.Rules.{listedService}
 use Rattle.frame.specs.declared.Written.{Written}
 use Rattle.frame.specs.declared.Written.the-variants as written
 use Rattle.payload.specs.declared.append.Written as Payload
 use Rattle.payload.specs.declared.append.Written.the-variants as payload
-use Rattle.payload.specs.declared.version.Version.{Version}
 use Rattle.session.specs.Rows.{noRow}
 use Rattle.session.specs.Rules.{replyVersion}
 use Rattle.link.specs.declared.Link.{Link}
 use Rattle.link.specs.declared.Answer.{Answer}
-use Rattle.link.specs.State.{settingsFit, createdLink}
 use Rattle.link.specs.Call.{After, Wish, old, new, bad}
-use Rattle.headunit.specs.declared.Called.{Called}
-use Rattle.headunit.specs.declared.Created.{Created}
 use Rattle.headunit.specs.declared.Wished.{Wished}
 use Rattle.headunit.specs.declared.Wished.the-variants as wished
 
--- creation. 10: "settings .. out of range"
-unfoldable pub creationOf : Version → ℕ → Created
-creationOf v mtu = record { refused = unless (settingsFit v mtu) 10 0; link = createdLink v mtu }
-
--- all that a call leaves: what it gives back, and the lent buffers
-abbrev pub leaves : Called → List ℕ → List ℕ → After
-leaves c pool out = record { answer = c .answer; link = c .link; pool = pool; out = out }
+-- a state as the inner functions find it: as many bytes as it should be, and bytes they are
+abbrev pub Ready : List ℕ → Type 0
+Ready s = (length s ≡ 2688) × AreBytes s
 
 -- bytes written to the front of a buffer, and how many
 pub record Sent : Type 0 where

@@ -1,30 +1,32 @@
 // The head unit's side of a link: creation and the call. Document 01, "The link" to "Messages".
-// The state goes in and out by value; the pool and the out buffer are lent. Every state, pool, input, out buffer and offer is answered.
+// State, pool and out buffer are lent. Every state, pool, input, out buffer and offer is answered.
 mod replies;
 
 ghost use mathlib.Core.Path.{_≡_};
 ghost use mathlib.Core.Bool.{true};
 ghost use mathlib.Core.List.{List, []};
-ghost use Prim.Native.Nat.{ℕ, _+_, _-_, _≤_, _<_, min};
+ghost use Prim.Native.Nat.{ℕ, _+_, _-_, _≤_, _<_};
 ghost use lib.ListN.{length, take};
 ghost use Rattle.numbers.specs.Bytes.{unless, part, laid};
+ghost use Rattle.numbers.specs.Numbers.{valueBe};
 ghost use Rattle.frame.specs.declared.Reading.the-variants.{Frame};
 ghost use Rattle.frame.specs.Read.{readOf};
 ghost use Rattle.payload.specs.Tags.{protocolVersion};
 ghost use Rattle.payload.specs.Version.{versionOf, lesserOf};
 ghost use Rattle.payload.specs.Reply.{nakPayload};
-ghost use Rattle.blocks.specs.Map.{claimed};
 ghost use Rattle.blocks.specs.Pool.{blockBytes, appended};
-ghost use Rattle.session.specs.Decide.{shareOf};
+ghost use Rattle.session.specs.Rules.{barredBy};
+ghost use Rattle.session.specs.Decide.{shareOf, firstOf, controlOf};
 ghost use Rattle.link.specs.declared.Grant.{Grant as Offer};
 ghost use Rattle.link.specs.declared.Link.{Link as State};
-ghost use Rattle.link.specs.State.{indexOf, ownerOf, sharesIn, guardOf, withRow, newId};
+ghost use Rattle.link.specs.State.{indexOf, ownerOf, sharesIn, guardOf, newId};
 ghost use Rattle.link.specs.Reply.{oldAck, newAck};
-ghost use Rattle.link.specs.Call.{old, new, wishOfText, wishOf, opens, admits, oldVersion, notOpened, opened, openingBy, saidOf, decisionOf, applied, frameOf, callOf};
-ghost use Rattle.link.specs.Values.{outcomeOf};
+ghost use Rattle.link.specs.Call.{after, old, new, wishOfText, wishOf, opens, admits, oldVersion, notOpened, opened, openingBy, saidOf, decisionOf, applied, frameOf};
+ghost use Rattle.state.specs.Layout.{rowIn, linkOf};
+ghost use Rattle.state.specs.Calls.{storedIn, withOwnersBytes, left, leftBy, callIn, toldOf as outcomeOf, made, createIn};
 ghost use Rattle.rules.specs.Parts.{Surveyed};
-ghost use Rattle.headunit.specs.Unit.{creationOf, leaves, wishFrom, Serves};
-ghost use Rattle.headunit.specs.Steps.{decisionBy, ownersAfter, fromRow, told, toldOf, Repliable, Roomy};
+ghost use Rattle.headunit.specs.Unit.{Ready, wishFrom, Serves};
+ghost use Rattle.headunit.specs.Steps.{ownersAfter, changes, linkAfter, fromRow, caseOf, told, toldOf, Repliable, Roomy};
 use blocks::Owner;
 use frame::Extent;
 use frame::Header;
@@ -34,7 +36,6 @@ use frame::ServiceType;
 use frame::SessionId;
 use link::Answer;
 use link::Grant;
-use link::Link;
 use payload::StringTag;
 use payload::reply::Parameter;
 use payload::version::Version;
@@ -56,20 +57,11 @@ const OUT_TOO_SMALL: u8 = 11;
 
 const NOT_OPEN: u8 = 12;
 
+// What creation answers where it is not refused.
+const CREATED: u8 = 0;
+
 // A call wants so many bytes of out.
 const LEAST_OUT: usize = 128;
-
-// What a call gives back: its answer and the link after it.
-pub struct Called {
-    pub answer: Answer,
-    pub link: Link,
-}
-
-// What creation gives: 0, or document 01's number of a refusal, and a link without sessions. A link with settings out of range answers 10 to every call.
-pub struct Created {
-    pub refused: u8,
-    pub link: Link,
-}
 
 // What a phone that opens a session wishes: an old version, one from 5.0.0 on, or it cannot be read.
 pub enum Wished {
@@ -86,45 +78,59 @@ fn owner(i: usize, place: usize) -> Owner
     Owner((1 + (i * 5 + place)) as u8)
 }
 
-// The link with row i as given.
-fn with_row(link: Link, i: usize, row: Row) -> Link
-    requires { ⌜ i < 8 ⌝ }
-    ensures { λ r. ⌜ r ≡ withRow link i row ⌝ }
-{
-    let mut changed = link;
-    changed.rows[i] = row;
-    changed
-}
-
-// The block map after a First Frame's blocks were claimed. How many blocks the search looked at ends with the search: it is no part of the state.
-fn with_claimed(owners: [u8; 256], need: usize, mine: Owner) -> [u8; 256]
-    ensures { λ r. ⌜ r ≡ claimed (mine .0) need owners ⌝ }
-{
-    let mut after = owners;
-    blocks::claim(&mut after, need, mine);
-    after
-}
-
 // The block map after a decision about row i's message at a place.
-fn owners_after(owners: [u8; 256], i: usize, place: usize, act: Act) -> [u8; 256]
-    requires { ⌜ (i < 8) × (place < 5) ⌝ }
-    ensures { λ r. ⌜ r ≡ ownersAfter i place owners act ⌝ }
+fn note_owners(link: &mut [u8], i: usize, place: usize, act: Act)
+    requires { ⌜ (i < 8) × ((place < 5) × (length (now link) ≡ 2688)) ⌝ }
+    ensures { λ _. ⌜ now (link .exit) ≡ withOwnersBytes (now (link .entry)) (ownersAfter i place (linkOf (now (link .entry)) .owners) act) ⌝ }
 {
     let mine = owner(i, place);
     match act {
-        Act::Refuse(_) => owners,
-        Act::Drop(_) => blocks::release(owners, mine, mine),
-        Act::Accept => owners,
-        Act::Beat => owners,
-        Act::Start => owners,
-        Act::NoStart => owners,
-        Act::Stop => blocks::release(owners, mine, mine),
-        Act::Close => blocks::release(owners, owner(i, 0), owner(i, 4)),
-        Act::NoEnd(_) => owners,
-        Act::Claim(total, _) => with_claimed(owners, session::need_of(total), mine),
-        Act::Append => owners,
-        Act::Deliver => blocks::release(owners, mine, mine),
-        Act::Single => owners,
+        Act::Refuse(_) => {}
+        Act::Drop(_) => state::release(link, mine, mine),
+        Act::Accept => {}
+        Act::Beat => {}
+        Act::Start => {}
+        Act::NoStart => {}
+        Act::Stop => state::release(link, mine, mine),
+        Act::Close => state::release(link, owner(i, 0), owner(i, 4)),
+        Act::NoEnd(_) => {}
+        Act::Claim(total, _) => state::claim(link, session::need_of(total), mine),
+        Act::Append => {}
+        Act::Deliver => state::release(link, mine, mine),
+        Act::Single => {}
+    }
+}
+
+// Whether a decision changes its session's row, which has this version, or the block map.
+fn is_change(version: u8, act: Act) -> bool
+    ensures { λ r. ⌜ r ≡ changes version act ⌝ }
+{
+    match act {
+        Act::Refuse(_) => false,
+        Act::Drop(_) => true,
+        Act::Accept => false,
+        Act::Beat => false,
+        Act::Start => true,
+        Act::NoStart => false,
+        Act::Stop => true,
+        Act::Close => true,
+        Act::NoEnd(_) => false,
+        Act::Claim(_, _) => true,
+        Act::Append => true,
+        Act::Deliver => true,
+        Act::Single => version == 0,
+    }
+}
+
+// The state after a decision about a frame of row i. Where nothing changes, nothing is written: most calls of a bench are such.
+fn note(link: &mut [u8], i: usize, header: Header, hash: u32, act: Act)
+    requires { ⌜ (i < 8) × Ready (now link) ⌝ }
+    ensures { λ _. ⌜ now (link .exit) ≡ storedIn (now (link .entry)) (linkAfter (linkOf (now (link .entry))) i header hash act) ⌝ }
+{
+    let row = state::row_at(link, i);
+    if is_change(row.version, act) {
+        state::put_row(link, i, session::row_after(row, header, hash, act));
+        note_owners(link, i, session::place_of(header.service), act);
     }
 }
 
@@ -164,22 +170,6 @@ fn put_front(bytes: &[u8], out: &mut [u8])
 
 // ---- what is done about a frame of a session
 
-// What a decision about a frame is carried out with.
-struct Case {
-    // whom a reply comes from
-    from: From,
-    // the session's row
-    row: Row,
-    // the message on the frame's service, and its blocks' owner
-    message: Reassembly,
-    mine: Owner,
-    mtu: u32,
-    // the offer's hash
-    hash: u32,
-    // the frame's bytes
-    consumed: usize,
-}
-
 // Whom a reply in a session comes from; major is the module's own version.
 fn from(major: u8, row: Row, service: ServiceType) -> From
     ensures { λ r. ⌜ r ≡ fromRow major row service ⌝ }
@@ -218,30 +208,33 @@ fn deliver(
     blocks::deliver(owners, mine, size, pool, out);
 }
 
-// What is done about a frame, but for the link: its answer, and the bytes of pool and out.
+// What is done about a frame of row i, but for the state: its answer, and the bytes of pool and out. The row is read here, and so is a message where it is
+// wanted: handed on from function to function, a row lies on the stack whole.
 fn tell(
-    case: Case,
+    link: &[u8],
+    i: usize,
     act: Act,
-    owners: &[u8],
+    service: ServiceType,
+    consumed: usize,
+    hash: u32,
     payload: &[u8],
     pool: &mut [u8],
     out: &mut [u8],
 ) -> Answer
-    requires { ⌜ Repliable (case .from) (now out) × Roomy (length (now out)) (length (now payload)) (case .message .total) act ⌝ }
-    ensures { λ r. ⌜ told r (now (pool .exit)) (now (out .exit)) ≡ toldOf case (now (owners .entry)) (now (payload .entry)) (now (pool .entry)) (now (out .entry)) act ⌝ }
+    requires { ⌜ (i < 8) × ((length (now link) ≡ 2688) × (Repliable (caseOf (linkOf (now link)) i service hash consumed .from) (now out) × Roomy (length (now out)) (length (now payload)) (caseOf (linkOf (now link)) i service hash consumed .message .total) act)) ⌝ }
+    ensures { λ r. ⌜ told r (now (pool .exit)) (now (out .exit)) ≡ toldOf (caseOf (linkOf (now (link .entry))) i service hash consumed) (linkOf (now (link .entry)) .owners) (now (payload .entry)) (now (pool .entry)) (now (out .entry)) act ⌝ }
 {
-    let from = case.from;
-    let service = from.service;
-    let consumed = case.consumed;
-    let next = case.row.next;
+    let row = state::row_at(link, i);
+    let from = from(state::major(link), row, service);
+    let next = row.next;
+    let place = session::place_of(service);
     match act {
         Act::Refuse(number) => Answer::Refused(number),
         Act::Drop(number) => Answer::Refused(number),
         Act::Accept => Answer::Accepted(consumed),
         Act::Beat => Answer::Beat(consumed, put_empty(from, BEAT_ACK, MessageId(0), out)),
         Act::Start => {
-            let version = case.row.version;
-            let size = replies::put_started(from, version, next, case.hash, case.mtu, out);
+            let size = replies::put_started(from, row.version, next, hash, state::mtu(link), out);
             Answer::Acked(consumed, size)
         }
         Act::NoStart => Answer::Nacked(consumed, put_empty(from, START_NAK, MessageId(0), out)),
@@ -250,12 +243,21 @@ fn tell(
         Act::NoEnd(named) => Answer::Nacked(consumed, replies::put_not_ended(from, named, out)),
         Act::Claim(_, _) => Answer::Accepted(consumed),
         Act::Append => {
-            feed(owners, case.mine, case.message, payload, pool);
+            let message = state::message_at(link, i, place);
+            feed(state::owners(link), owner(i, place), message, payload, pool);
             Answer::Accepted(consumed)
         }
         Act::Deliver => {
-            deliver(owners, case.mine, case.message, payload, pool, out);
-            Answer::Delivered(consumed, service, case.message.total as usize)
+            let message = state::message_at(link, i, place);
+            deliver(
+                state::owners(link),
+                owner(i, place),
+                message,
+                payload,
+                pool,
+                out,
+            );
+            Answer::Delivered(consumed, service, message.total as usize)
         }
         Act::Single => {
             put_front(payload, out);
@@ -279,33 +281,69 @@ fn others(shared: usize, row: Row) -> u32
     }
 }
 
-// What is to be done about a frame of a session; room is out's length.
-fn decide(
-    major: u8,
-    mtu: u32,
-    row: Row,
-    others: u32,
-    header: Header,
-    payload: &[u8],
-    room: usize,
-) -> Act
-    ensures { λ r. ⌜ r ≡ decisionBy major mtu row others header (now (payload .entry)) room ⌝ }
+// The lowest of 13 to 17 that a frame of row i earns, or 0.
+fn barred(link: &[u8], i: usize, header: Header) -> u8
+    requires { ⌜ (i < 8) × (length (now link) ≡ 2688) ⌝ }
+    ensures { λ r. ⌜ r ≡ barredBy (linkOf (now (link .entry)) .version .major) (linkOf (now (link .entry)) .mtu) (rowIn (now (link .entry)) i) header ⌝ }
 {
-    let barred = session::barred_by(row, header, major, mtu);
-    if barred != 0 {
-        return Act::Refuse(barred);
-    }
-    if header.kind == 0 {
+    let row = state::row_at(link, i);
+    session::barred_by(row, header, state::major(link), state::mtu(link))
+}
+
+// A control frame of row i. Only a Start's and an End's payload is read.
+fn control(link: &[u8], i: usize, header: Header, payload: &[u8]) -> Act
+    requires { ⌜ (i < 8) × (length (now link) ≡ 2688) ⌝ }
+    ensures { λ r. ⌜ r ≡ controlOf (rowIn (now (link .entry)) i) header (saidOf (rowIn (now (link .entry)) i) (now (payload .entry))) ⌝ }
+{
+    let row = state::row_at(link, i);
+    if header.info == 1 {
         return session::control(row, header, said(row, payload));
     }
-    session::content(
+    if header.info == 4 {
+        return session::control(row, header, said(row, payload));
+    }
+    session::control(
         row,
-        others,
-        room,
         header,
-        numbers::be4(payload, 0),
-        numbers::be4(payload, 4),
+        Said {
+            readable: false,
+            found: false,
+            hash: 0,
+        },
     )
+}
+
+// A First Frame of row i; its payload is total, then count. `shared` is the room that all sessions take.
+fn first(link: &[u8], shared: usize, i: usize, header: Header, payload: &[u8]) -> Act
+    requires { ⌜ (i < 8) × ((length (now link) ≡ 2688) × (shared ≤ 671088640)) ⌝ }
+    ensures { λ r. ⌜ r ≡ firstOf (rowIn (now (link .entry)) i) (shared - shareOf (rowIn (now (link .entry)) i)) header (valueBe (part (now (payload .entry)) 0 4)) (valueBe (part (now (payload .entry)) 4 4)) ⌝ }
+{
+    let row = state::row_at(link, i);
+    let total = numbers::be4(payload, 0);
+    let count = numbers::be4(payload, 4);
+    session::first(row, others(shared, row), header, total, count)
+}
+
+// What is to be done about a frame of row i; room is out's length.
+fn decide(link: &[u8], shared: usize, i: usize, header: Header, payload: &[u8], room: usize) -> Act
+    requires { ⌜ (i < 8) × ((length (now link) ≡ 2688) × ((shared ≡ sharesIn (linkOf (now link) .rows)) × (shared ≤ 671088640))) ⌝ }
+    ensures { λ r. ⌜ r ≡ decisionOf (linkOf (now (link .entry))) i header (now (payload .entry)) room ⌝ }
+{
+    let number = barred(link, i, header);
+    if number != 0 {
+        return Act::Refuse(number);
+    }
+    if header.kind == 0 {
+        return control(link, i, header, payload);
+    }
+    if header.kind == 1 {
+        return session::single(room, header);
+    }
+    if header.kind == 2 {
+        return first(link, shared, i, header, payload);
+    }
+    let place = session::place_of(header.service);
+    session::next_for(state::message_at(link, i, place), room, header)
 }
 
 // ---- opening
@@ -370,37 +408,31 @@ fn wish_of(major: u8, payload: &[u8]) -> Wished
     }
 }
 
-// A version that cannot be read is refused by its name.
-fn not_readable(link: Link, consumed: usize, out: &mut [u8]) -> Called
-    requires { ⌜ (128 ≤ length (now out)) × (1 ≤ link .version .major) ⌝ }
-    ensures { λ r. ⌜ ((p : List ℕ) (g : Offer) → leaves r p (now (out .exit)) ≡ notOpened link p (now (out .entry)) consumed g (nakPayload protocolVersion)) ⌝ }
+// A version that cannot be read is refused by its name; major is the module's own.
+fn not_readable(major: u8, consumed: usize, out: &mut [u8]) -> Answer
+    requires { ⌜ (128 ≤ length (now out)) × (1 ≤ major) ⌝ }
+    ensures { λ r. ⌜ ((l : State) (p : List ℕ) (g : Offer) → major ≡ l .version .major → after r l p (now (out .exit)) ≡ notOpened l p (now (out .entry)) consumed g (nakPayload protocolVersion)) ⌝ }
 {
     let from = From {
-        version: numbers::least_byte(link.version.major, 4),
+        version: numbers::least_byte(major, 4),
         service: ServiceType(7),
         session: SessionId(0),
     };
     let size = replies::put_nak(from, START_NAK, Parameter::ProtocolVersion, out);
-    Called {
-        answer: Answer::Nacked(consumed, size),
-        link: link,
-    }
+    Answer::Nacked(consumed, size)
 }
 
-fn not_admitted(link: Link, consumed: usize, out: &mut [u8]) -> Called
-    requires { ⌜ (128 ≤ length (now out)) × (1 ≤ link .version .major) ⌝ }
-    ensures { λ r. ⌜ ((p : List ℕ) (g : Offer) → leaves r p (now (out .exit)) ≡ notOpened link p (now (out .entry)) consumed g []) ⌝ }
+fn not_admitted(major: u8, consumed: usize, out: &mut [u8]) -> Answer
+    requires { ⌜ (128 ≤ length (now out)) × (1 ≤ major) ⌝ }
+    ensures { λ r. ⌜ ((l : State) (p : List ℕ) (g : Offer) → major ≡ l .version .major → after r l p (now (out .exit)) ≡ notOpened l p (now (out .entry)) consumed g []) ⌝ }
 {
     let from = From {
-        version: numbers::least_byte(link.version.major, 4),
+        version: numbers::least_byte(major, 4),
         service: ServiceType(7),
         session: SessionId(0),
     };
     let size = put_empty(from, START_NAK, MessageId(0), out);
-    Called {
-        answer: Answer::Nacked(consumed, size),
-        link: link,
-    }
+    Answer::Nacked(consumed, size)
 }
 
 // Unsettled, or settled at 1 under a module of version 1.
@@ -412,65 +444,68 @@ fn old_version(major: u8) -> u8
 
 // The session in the free row i, with an old version.
 fn opened_old(
-    link: Link,
+    link: &mut [u8],
     i: usize,
     id: SessionId,
     consumed: usize,
     grant: Grant,
     out: &mut [u8],
-) -> Called
-    requires { ⌜ (i < 8) × ((i ≡ indexOf 0 (link .rows)) × ((128 ≤ length (now out)) × ((1 ≤ link .version .major) × (id ≡ newId (link .rows))))) ⌝ }
-    ensures { λ r. ⌜ ((p : List ℕ) → leaves r p (now (out .exit)) ≡ opened link p (now (out .entry)) consumed grant (oldVersion (link .version .major)) (oldAck (link .version .major) (newId (link .rows)) (grant .hash))) ⌝ }
+) -> Answer
+    requires { ⌜ Ready (now link) × ((i < 8) × ((i ≡ indexOf 0 (linkOf (now link) .rows)) × ((128 ≤ length (now out)) × ((1 ≤ linkOf (now link) .version .major) × (id ≡ newId (linkOf (now link) .rows)))))) ⌝ }
+    ensures { λ r. ⌜ ((p : List ℕ) → left r (now (link .exit)) p (now (out .exit)) ≡ leftBy (now (link .entry)) (opened (linkOf (now (link .entry))) p (now (out .entry)) consumed grant (oldVersion (linkOf (now (link .entry)) .version .major)) (oldAck (linkOf (now (link .entry)) .version .major) (newId (linkOf (now (link .entry)) .rows)) (grant .hash)))) ⌝ }
 {
+    let major = state::major(link);
     let row = Row::opened(
         id,
         grant.guarantee,
         grant.cap,
-        old_version(link.version.major),
+        old_version(major),
         grant.hash,
     );
     let from = From {
-        version: numbers::least_byte(link.version.major, 4),
+        version: numbers::least_byte(major, 4),
         service: ServiceType(7),
         session: id,
     };
     let size = replies::put_hash(from, MessageId(1), grant.hash, out);
-    Called {
-        answer: Answer::Acked(consumed, size),
-        link: with_row(link, i, row),
-    }
+    state::put_row(link, i, row);
+    Answer::Acked(consumed, size)
 }
 
 // The same in version 5, on the lesser of both versions.
 fn opened_new(
-    link: Link,
+    link: &mut [u8],
     i: usize,
     id: SessionId,
     consumed: usize,
     grant: Grant,
     wish: Version,
     out: &mut [u8],
-) -> Called
-    requires { ⌜ (i < 8) × ((i ≡ indexOf 0 (link .rows)) × ((128 ≤ length (now out)) × ((id ≡ newId (link .rows)) × ((1 ≤ link .version .major) × (1 ≤ wish .major))))) ⌝ }
-    ensures { λ r. ⌜ ((p : List ℕ) → leaves r p (now (out .exit)) ≡ opened link p (now (out .entry)) consumed grant 5 (newAck (newId (link .rows)) (grant .hash) (link .mtu) (lesserOf (link .version) wish))) ⌝ }
+) -> Answer
+    requires { ⌜ Ready (now link) × ((i < 8) × ((i ≡ indexOf 0 (linkOf (now link) .rows)) × ((128 ≤ length (now out)) × ((id ≡ newId (linkOf (now link) .rows)) × ((1 ≤ linkOf (now link) .version .major) × (1 ≤ wish .major)))))) ⌝ }
+    ensures { λ r. ⌜ ((p : List ℕ) → left r (now (link .exit)) p (now (out .exit)) ≡ leftBy (now (link .entry)) (opened (linkOf (now (link .entry))) p (now (out .entry)) consumed grant 5 (newAck (newId (linkOf (now (link .entry)) .rows)) (grant .hash) (linkOf (now (link .entry)) .mtu) (lesserOf (linkOf (now (link .entry)) .version) wish)))) ⌝ }
 {
     let row = Row::opened(id, grant.guarantee, grant.cap, 5, grant.hash);
-    let own = link.version;
+    let own = state::version(link);
     let version = payload::version::lesser(own, wish);
-    let size = replies::put_opened(id, grant.hash, link.mtu, version, out);
-    Called {
-        answer: Answer::Acked(consumed, size),
-        link: with_row(link, i, row),
-    }
+    let size = replies::put_opened(id, grant.hash, state::mtu(link), version, out);
+    state::put_row(link, i, row);
+    Answer::Acked(consumed, size)
 }
 
 // With an old version, where there is a row and room for the guarantee.
-fn open_old(link: Link, seen: Overview, consumed: usize, grant: Grant, out: &mut [u8]) -> Called
-    requires { ⌜ (128 ≤ length (now out)) × ((1 ≤ link .version .major) × Surveyed link seen) ⌝ }
-    ensures { λ r. ⌜ ((p : List ℕ) → leaves r p (now (out .exit)) ≡ openingBy link p (now (out .entry)) consumed grant old) ⌝ }
+fn open_old(
+    link: &mut [u8],
+    seen: Overview,
+    consumed: usize,
+    grant: Grant,
+    out: &mut [u8],
+) -> Answer
+    requires { ⌜ Ready (now link) × ((128 ≤ length (now out)) × ((1 ≤ linkOf (now link) .version .major) × Surveyed (linkOf (now link)) seen)) ⌝ }
+    ensures { λ r. ⌜ ((p : List ℕ) → left r (now (link .exit)) p (now (out .exit)) ≡ leftBy (now (link .entry)) (openingBy (linkOf (now (link .entry))) p (now (out .entry)) consumed grant old)) ⌝ }
 {
     if !is_admitted(seen, grant) {
-        return not_admitted(link, consumed, out);
+        return not_admitted(state::major(link), consumed, out);
     }
     let ids = seen.ids;
     let i = rules::index_of(ids, SessionId(0));
@@ -479,18 +514,18 @@ fn open_old(link: Link, seen: Overview, consumed: usize, grant: Grant, out: &mut
 
 // The same from 5.0.0 on.
 fn open_new(
-    link: Link,
+    link: &mut [u8],
     seen: Overview,
     consumed: usize,
     grant: Grant,
     wish: Version,
     out: &mut [u8],
-) -> Called
-    requires { ⌜ (128 ≤ length (now out)) × ((1 ≤ link .version .major) × ((1 ≤ wish .major) × Surveyed link seen)) ⌝ }
-    ensures { λ r. ⌜ ((p : List ℕ) → leaves r p (now (out .exit)) ≡ openingBy link p (now (out .entry)) consumed grant (new wish)) ⌝ }
+) -> Answer
+    requires { ⌜ Ready (now link) × ((128 ≤ length (now out)) × ((1 ≤ linkOf (now link) .version .major) × ((1 ≤ wish .major) × Surveyed (linkOf (now link)) seen))) ⌝ }
+    ensures { λ r. ⌜ ((p : List ℕ) → left r (now (link .exit)) p (now (out .exit)) ≡ leftBy (now (link .entry)) (openingBy (linkOf (now (link .entry))) p (now (out .entry)) consumed grant (new wish))) ⌝ }
 {
     if !is_admitted(seen, grant) {
-        return not_admitted(link, consumed, out);
+        return not_admitted(state::major(link), consumed, out);
     }
     let ids = seen.ids;
     let i = rules::index_of(ids, SessionId(0));
@@ -499,20 +534,21 @@ fn open_new(
 
 // An opening.
 fn open(
-    link: Link,
+    link: &mut [u8],
     seen: Overview,
     consumed: usize,
     payload: &[u8],
     grant: Grant,
     out: &mut [u8],
-) -> Called
-    requires { ⌜ (128 ≤ length (now out)) × ((1 ≤ link .version .major) × Surveyed link seen) ⌝ }
-    ensures { λ r. ⌜ ((p : List ℕ) → leaves r p (now (out .exit)) ≡ openingBy link p (now (out .entry)) consumed grant (wishOf (link .version .major) (now (payload .entry)))) ⌝ }
+) -> Answer
+    requires { ⌜ Ready (now link) × ((128 ≤ length (now out)) × ((1 ≤ linkOf (now link) .version .major) × Surveyed (linkOf (now link)) seen)) ⌝ }
+    ensures { λ r. ⌜ ((p : List ℕ) → left r (now (link .exit)) p (now (out .exit)) ≡ leftBy (now (link .entry)) (openingBy (linkOf (now (link .entry))) p (now (out .entry)) consumed grant (wishOf (linkOf (now (link .entry)) .version .major) (now (payload .entry))))) ⌝ }
 {
-    match wish_of(link.version.major, payload) {
+    let major = state::major(link);
+    match wish_of(major, payload) {
         Wished::Old => open_old(link, seen, consumed, grant, out),
         Wished::New(wish) => open_new(link, seen, consumed, grant, wish, out),
-        Wished::Bad => not_readable(link, consumed, out),
+        Wished::Bad => not_readable(major, consumed, out),
     }
 }
 
@@ -520,7 +556,7 @@ fn open(
 
 // A frame of the session in row i: decided by its row, told in pool and out, and noted in row and block map. `shared` is what all sessions take.
 fn within(
-    mut link: Link,
+    link: &mut [u8],
     shared: usize,
     i: usize,
     header: Header,
@@ -529,38 +565,29 @@ fn within(
     grant: Grant,
     pool: &mut [u8],
     out: &mut [u8],
-) -> Called
-    requires { ⌜ Serves link i header (now out) × ((length (now payload) ≡ header .size) × ((shared ≡ sharesIn (link .rows)) × (shared ≤ 671088640))) ⌝ }
-    ensures { λ r. ⌜ leaves r (now (pool .exit)) (now (out .exit)) ≡ applied link i (now (pool .entry)) (now (out .entry)) header consumed (now (payload .entry)) grant (decisionOf link i header (now (payload .entry)) (length (now (out .entry)))) ⌝ }
+) -> Answer
+    requires { ⌜ Ready (now link) × (Serves (linkOf (now link)) i header (now out) × ((length (now payload) ≡ header .size) × ((shared ≡ sharesIn (linkOf (now link) .rows)) × (shared ≤ 671088640)))) ⌝ }
+    ensures { λ r. ⌜ left r (now (link .exit)) (now (pool .exit)) (now (out .exit)) ≡ leftBy (now (link .entry)) (applied (linkOf (now (link .entry))) i (now (pool .entry)) (now (out .entry)) header consumed (now (payload .entry)) grant (decisionOf (linkOf (now (link .entry))) i header (now (payload .entry)) (length (now (out .entry))))) ⌝ }
 {
-    let row = link.rows[i];
-    let major = link.version.major;
-    let rest = others(shared, row);
-    let act = decide(major, link.mtu, row, rest, header, payload, out.len());
-    let place = session::place_of(header.service);
-    let case = Case {
-        from: from(major, row, header.service),
-        row: row,
-        message: row.messages[place],
-        mine: owner(i, place),
-        mtu: link.mtu,
-        hash: grant.hash,
-        consumed: consumed,
-    };
-    let answer = tell(case, act, &link.owners, payload, pool, out);
-    link.rows[i] = session::row_after(row, header, grant.hash, act);
-    let before = link.owners;
-    let owners = owners_after(before, i, place, act);
-    link.owners = owners;
-    Called {
-        answer: answer,
-        link: link,
-    }
+    let act = decide(link, shared, i, header, payload, out.len());
+    let answer = tell(
+        link,
+        i,
+        act,
+        header.service,
+        consumed,
+        grant.hash,
+        payload,
+        pool,
+        out,
+    );
+    note(link, i, header, grant.hash, act);
+    answer
 }
 
 // A frame of a link within the rules: 11, an opening, 12, or its session's.
 fn take(
-    link: Link,
+    link: &mut [u8],
     seen: Overview,
     header: Header,
     extent: Extent,
@@ -568,25 +595,19 @@ fn take(
     grant: Grant,
     pool: &mut [u8],
     out: &mut [u8],
-) -> Called
-    requires { ⌜ (readOf (now input) ≡ Frame header extent) × ((guardOf link (length (now pool)) grant ≡ true) × Surveyed link seen) ⌝ }
-    ensures { λ r. ⌜ leaves r (now (pool .exit)) (now (out .exit)) ≡ frameOf link (now (pool .entry)) (now (input .entry)) (now (out .entry)) header extent grant ⌝ }
+) -> Answer
+    requires { ⌜ Ready (now link) × ((readOf (now input) ≡ Frame header extent) × ((guardOf (linkOf (now link)) (length (now pool)) grant ≡ true) × Surveyed (linkOf (now link)) seen)) ⌝ }
+    ensures { λ r. ⌜ left r (now (link .exit)) (now (pool .exit)) (now (out .exit)) ≡ leftBy (now (link .entry)) (frameOf (linkOf (now (link .entry))) (now (pool .entry)) (now (input .entry)) (now (out .entry)) header extent grant) ⌝ }
 {
     if out.len() < LEAST_OUT {
-        return Called {
-            answer: Answer::Refused(OUT_TOO_SMALL),
-            link: link,
-        };
+        return Answer::Refused(OUT_TOO_SMALL);
     }
     let payload = frame::payload(input, extent);
     if is_opening(header) {
         return open(link, seen, extent.consumed, payload, grant, out);
     }
     if header.session.0 == 0 {
-        return Called {
-            answer: Answer::Refused(NOT_OPEN),
-            link: link,
-        };
+        return Answer::Refused(NOT_OPEN);
     }
     let ids = seen.ids;
     let i = rules::index_of(ids, header.session);
@@ -603,57 +624,38 @@ fn take(
             out,
         );
     }
-    Called {
-        answer: Answer::Refused(NOT_OPEN),
-        link: link,
-    }
+    Answer::Refused(NOT_OPEN)
 }
 
 // The call: the frame at the front of the input is answered, and what follows it is not looked at. The contract tells the answer by document 01's number and
 // values; it fixes the answer itself (`outcome-tells`, link/proofs/Values).
-pub fn call(link: Link, pool: &mut [u8], input: &[u8], out: &mut [u8], grant: Grant) -> Called
-    ensures { λ r. ⌜ outcomeOf (leaves r (now (pool .exit)) (now (out .exit))) ≡ outcomeOf (callOf link (now (pool .entry)) (now (input .entry)) (now (out .entry)) grant) ⌝ }
+pub fn call(link: &mut [u8], pool: &mut [u8], input: &[u8], out: &mut [u8], grant: Grant) -> Answer
+    ensures { λ r. ⌜ outcomeOf (left r (now (link .exit)) (now (pool .exit)) (now (out .exit))) ≡ outcomeOf (callIn (now (link .entry)) (now (pool .entry)) (now (input .entry)) (now (out .entry)) grant) ⌝ }
 {
+    if !state::is_state(link) {
+        return Answer::Refused(OUT_OF_RANGE);
+    }
     let seen = rules::survey(link, pool.len(), grant);
     if !seen.fit {
-        return Called {
-            answer: Answer::Refused(OUT_OF_RANGE),
-            link: link,
-        };
+        return Answer::Refused(OUT_OF_RANGE);
     }
     match frame::read(input) {
-        Reading::Short(needed) => Called {
-            answer: Answer::Short(needed),
-            link: link,
-        },
-        Reading::Refused(number) => Called {
-            answer: Answer::Refused(number),
-            link: link,
-        },
+        Reading::Short(needed) => Answer::Short(needed),
+        Reading::Refused(number) => Answer::Refused(number),
         Reading::Frame(header, extent) => take(link, seen, header, extent, input, grant, pool, out),
     }
 }
 
-// Creation.
-pub fn create(version: Version, mtu: u32) -> Created
-    ensures { λ r. ⌜ r ≡ creationOf version mtu ⌝ }
+// Creation: 0, or document 01's number of a refusal, which leaves every byte.
+pub fn create(link: &mut [u8], version: Version, mtu: u32) -> u8
+    ensures { λ r. ⌜ made r (now (link .exit)) ≡ createIn (now (link .entry)) version mtu ⌝ }
 {
-    let rows = [Row::free(); 8];
-    let owners = blocks::free_map();
-    let link = Link {
-        version: version,
-        mtu: mtu,
-        rows: rows,
-        owners: owners,
-    };
+    if link.len() != state::LENGTH {
+        return OUT_OF_RANGE;
+    }
     if !rules::settings_fit(version, mtu) {
-        return Created {
-            refused: OUT_OF_RANGE,
-            link: link,
-        };
+        return OUT_OF_RANGE;
     }
-    Created {
-        refused: 0,
-        link: link,
-    }
+    state::create(link, version, mtu);
+    CREATED
 }

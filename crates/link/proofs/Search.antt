@@ -39,7 +39,7 @@ use Rattle.link.proofs.TableRules.{claim-room}
 use Rattle.link.proofs.Calls.{Called, short, refused, nacked, acked, in-row, called}
 
 -- a link that passes 10 is within the rules
-guard-sane : (l : Link) (p : List ℕ) (g : Grant) → Shaped l → guardOf l (length p) g ≡ true → Sane (record { link = l; pool = p })
+pub guard-sane : (l : Link) (p : List ℕ) (g : Grant) → Shaped l → guardOf l (length p) g ≡ true → Sane (record { link = l; pool = p })
 unfolding guardOf
 guard-sane l p g shape t =
     let a = and-both (eqb (length p) 65536) _ t in

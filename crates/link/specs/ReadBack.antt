@@ -166,7 +166,7 @@ HexReadBack = (bytes out : List ℕ) → AreBytes bytes → length bytes ≤ len
 abbrev pub DecimalReadBack : Type 0
 DecimalReadBack = (n : ℕ) → n < 2 ^ 64 → numberOf (decimalOf n) ≡ Number.Value n
 
--- all of them; the C functions are in capture/specs/ReadBack
+-- all of them; the C functions are in tilambok/specs/ReadBack
 pub record ReadBack : Type 0 where
   pub number : NumberReadBack
   pub number-again : NumberWrittenAgain

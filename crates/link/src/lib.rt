@@ -4,7 +4,7 @@ use frame::ServiceType;
 use payload::version::Version;
 use session::Row;
 
-// The state, by value. The pool's bytes are the caller's.
+// The state, as the definitions speak of it. In code it lies in bytes of the caller's, and no function makes this struct: `linkOf` (state/specs/Layout) reads it off them.
 pub struct Link {
     // the module's own version
     pub version: Version,

@@ -1,11 +1,14 @@
-// Numbers as bytes, in both orders: most significant first (frame headers), least significant first (BSON).
-// Every public function is total: a read counts only the bytes that are there, a write that does not fit changes nothing.
+// Numbers as bytes, in both orders: most significant first (frame headers), least significant first (BSON). And copies of bytes.
+// Every public function but `copy` is total: a read counts only the bytes that are there, a write that does not fit changes nothing.
 ghost use mathlib.Core.Path.{_≡_};
 ghost use Prim.Native.Nat.{_+_, _-_, _^_, _≤_, _<_, min};
 ghost use lib.ListN.{length};
 ghost use lib.Seq.{paste};
 ghost use Rattle.numbers.specs.Bytes.{part, fitsIn, putAt};
 ghost use Rattle.numbers.specs.Numbers.{valueLe, valueBe, bytesLe, bytesBe, Fits};
+
+// The most bytes that are copied by way of an array; more go by a loop.
+const MOST_APART: usize = 131072;
 
 // The lesser of two; of bytes the next one.
 pub fn least(a: usize, b: usize) -> usize
@@ -112,6 +115,19 @@ pub fn be4(s: &[u8], at: usize) -> u32
     sum_be(s, at, n) as u32
 }
 
+// One byte and two of a record of numbers.
+pub fn le1(s: &[u8], at: usize) -> u8
+    ensures { λ r. ⌜ r ≡ valueLe (part (now (s .entry)) at 1) ⌝ }
+{
+    read_le(s, at, 1) as u8
+}
+
+pub fn le2(s: &[u8], at: usize) -> u16
+    ensures { λ r. ⌜ r ≡ valueLe (part (now (s .entry)) at 2) ⌝ }
+{
+    read_le(s, at, 2) as u16
+}
+
 // BSON's int32, as its 32 bits.
 pub fn le4(s: &[u8], at: usize) -> u32
     ensures { λ r. ⌜ r ≡ valueLe (part (now (s .entry)) at 4) ⌝ }
@@ -154,6 +170,18 @@ pub fn put_be4(out: &mut [u8], at: usize, x: u32)
     write_le(out, at, 4, swapped(x) as u64);
 }
 
+pub fn put_le1(out: &mut [u8], at: usize, x: u8)
+    ensures { λ _. ⌜ now (out .exit) ≡ putAt (now (out .entry)) at 1 (bytesLe 1 x) ⌝ }
+{
+    write_le(out, at, 1, x as u64);
+}
+
+pub fn put_le2(out: &mut [u8], at: usize, x: u16)
+    ensures { λ _. ⌜ now (out .exit) ≡ putAt (now (out .entry)) at 2 (bytesLe 2 x) ⌝ }
+{
+    write_le(out, at, 2, x as u64);
+}
+
 pub fn put_le4(out: &mut [u8], at: usize, x: u32)
     ensures { λ _. ⌜ now (out .exit) ≡ putAt (now (out .entry)) at 4 (bytesLe 4 x) ⌝ }
 {
@@ -164,4 +192,28 @@ pub fn put_le8(out: &mut [u8], at: usize, x: u64)
     ensures { λ _. ⌜ now (out .exit) ≡ putAt (now (out .entry)) at 8 (bytesLe 8 x) ⌝ }
 {
     write_le(out, at, 8, x);
+}
+
+// Copies by way of an array of its own. That lies apart from both slices, so the compiler makes one move of the two copies, with no test for overlap, and
+// no array is left.
+fn copy_apart(source: &[u8], target: &mut [u8])
+    requires { ⌜ (length (now source) ≤ 131072) × (length (now target) ≡ length (now source)) ⌝ }
+    ensures { λ _. ⌜ now (target .exit) ≡ now (source .entry) ⌝ }
+{
+    let n = source.len();
+    let mut between = [0u8; MOST_APART];
+    bytes::copy(source, &mut between);
+    bytes::copy(&between[0..n], target);
+}
+
+// Puts bytes over as many others.
+pub fn copy(source: &[u8], target: &mut [u8])
+    requires { ⌜ length (now target) ≡ length (now source) ⌝ }
+    ensures { λ _. ⌜ now (target .exit) ≡ now (source .entry) ⌝ }
+{
+    if source.len() <= MOST_APART {
+        copy_apart(source, target);
+    } else {
+        bytes::copy(source, target);
+    }
 }

@@ -17,13 +17,10 @@ use Rattle.lines.proofs.Digits.{width-most}
 use Rattle.text.proofs.Lists.{take-min, drop-min}
 use Rattle.text.specs.declared.Text.{Text}
 use Rattle.text.specs.Said.{said, Started, Longer}
-use Rattle.link.specs.declared.Link.{Link}
 use Rattle.link.specs.declared.Grant.{Grant}
-use Rattle.link.specs.Call.{callOf}
-use Rattle.link.specs.Values.{Values, accepted, Outcome, outcomeOf}
-use Rattle.headunit.specs.declared.Created.{Created}
-use Rattle.pace.specs.declared.Run.{Run}
-use Rattle.pace.specs.Pace.{countedOf, offered, behindOf, nextOf, placesIn, Left, left, counting, afterCall, runFrom, beginning, longest, numberAt, sizeAt, opening, again, scriptOf, Served, served, servedBy, servedOf, lineOf, emptyBuffer, answerOf}
+use Rattle.link.specs.Values.{Values, accepted}
+use Rattle.state.specs.Calls.{callIn, Told, toldOf}
+use Rattle.pace.specs.Pace.{countedOf, offered, behindOf, nextOf, placesIn, Left, left, counting, afterCall, runFrom, beginning, longest, numberAt, sizeAt, opening, again, scriptOf, lineOf, emptyBuffer, emptyState, answerOf}
 
 -- ---- places
 
@@ -40,27 +37,19 @@ module _ (at size n : ℕ) where
 
 -- ---- call after call
 
--- all that calls leave, from its parts: the loop has each in a variable of its own
-abbrev pub stands : Link → ℕ → List ℕ → List ℕ → Left
-stands link n pool out = record { link = link; accepted = n; pool = pool; out = out }
-
 -- an answer, as the code counts it
 pub counts : {b : Bool} (n : ℕ) (v : Values) → b ≡ accepted v → (n + boolByte b) % 2 ^ 64 ≡ countedOf n v
 counts {b} n v e =
     let z : _≡_ {A = ℕ} (boolByte b) (pick (accepted v) 1 0) = bit-is b ∙ ap (λ (x : Bool). pick {A = ℕ} x 1 0) e in
     ap (λ (k : ℕ). (n + k) % 2 ^ 64) z
 
--- a link that was created, and no call accepted
-abbrev pub begun : Created → Run
-begun x = record { link = x .link; accepted = 0 }
-
 -- what one call leaves, as the code has it
-pub call-taken : {o : Outcome} {q : List ℕ} {n : ℕ} {g : Grant} (places : List ℕ) (at : ℕ) (link : Link) (count : ℕ) (pool out : List ℕ)
-    → g ≡ offered → q ≡ drop at places → o ≡ outcomeOf (callOf link pool q out g) → n ≡ countedOf count (o .values)
-    → stands (o .link) n (o .pool) (o .out) ≡ afterCall places at (stands link count pool out)
-call-taken {o} {q} places at link count pool out offer bytes e z =
-    let made : List ℕ → Grant → Outcome = λ s x. outcomeOf (callOf link pool s out x) in
-    ap (λ (k : ℕ). stands (o .link) k (o .pool) (o .out)) z
+pub call-taken : {t : Told} {q : List ℕ} {n : ℕ} {g : Grant} (places : List ℕ) (at count : ℕ) (state pool out : List ℕ)
+    → g ≡ offered → q ≡ drop at places → t ≡ toldOf (callIn state pool q out g) → n ≡ countedOf count (t .values)
+    → left n (t .state) (t .pool) (t .out) ≡ afterCall places at (left count state pool out)
+call-taken {t} {q} places at count state pool out offer bytes e z =
+    let made : List ℕ → Grant → Told = λ s x. toldOf (callIn state pool s out x) in
+    ap (λ (k : ℕ). left k (t .state) (t .pool) (t .out)) z
     ∙ ap (counting count) (e ∙ ap (made q) offer ∙ ap (λ (s : List ℕ). made s offered) bytes)
 
 module _ (places : List ℕ) (size at calls : ℕ) (l : Left) where
@@ -113,15 +102,15 @@ module _ (script : List ℕ) {size f first g rest calls : ℕ} (is-size : size �
       ∙ ap (λ (k : ℕ). part script (16 + k) rest) first-is
       ∙ ap (part script (16 + sizeAt script 4)) rest-is
 
-  pub script-served : (pool out : List ℕ) {count : ℕ} {begun₀ r r₂ : Run} {p o p₂ o₂ : List ℕ} → begun₀ ≡ beginning → count ≡ placesIn first size
-      → left r p o ≡ runFrom count (take (b - a) (drop a script)) size 0 (left begun₀ pool out)
-      → left r₂ p₂ o₂ ≡ runFrom calls (take (e - b) (drop b script)) size 0 (left r p o)
-      → served (r₂ .accepted) p₂ o₂ ≡ servedOf script pool out
+  pub script-served : (state pool out : List ℕ) {count : ℕ} {begun : List ℕ} {l l₂ : Left} → begun ≡ beginning state → count ≡ placesIn first size
+      → l ≡ runFrom count (take (b - a) (drop a script)) size 0 (left 0 begun pool out)
+      → l₂ ≡ runFrom calls (take (e - b) (drop b script)) size 0 l
+      → l₂ ≡ scriptOf script state pool out
   unfolding scriptOf
-  script-served pool out is-begun is-count once more =
+  script-served state pool out is-begun is-count once more =
       let count-is = is-count ∙ ap (λ (k : ℕ). placesIn k size) first-is ∙ ap (placesIn (sizeAt script 4)) is-size in
-      let one = once ∙ same-run count-is opening-is is-size (ap (λ (run : Run). left run pool out) is-begun) in
-      ap servedBy (more ∙ same-run is-calls again-is is-size one)
+      let one = once ∙ same-run count-is opening-is is-size (ap (λ (s : List ℕ). left 0 s pool out) is-begun) in
+      more ∙ same-run is-calls again-is is-size one
 
 -- ---- a number and a newline
 
@@ -136,8 +125,8 @@ number-said n {t} {u} h begun digits ended =
 
 -- ---- the program
 
--- the script's number as a line, its buffers as the code has them
-pub answered-is : (script : List ℕ) {n : ℕ} {p o chars : List ℕ} → served n p o ≡ servedOf script (replicate 65536 0) (replicate 65536 0) → chars ≡ lineOf n
-    → chars ≡ answerOf script
-unfolding emptyBuffer
-answered-is script e f = f ∙ ap (λ (s : Served). lineOf (s .accepted)) e
+-- the script's number as a line, state and buffers as the code has them
+pub answered-is : (script : List ℕ) {l : Left} {chars : List ℕ} → l ≡ scriptOf script (replicate 2688 0) (replicate 65536 0) (replicate 65536 0)
+    → chars ≡ lineOf (l .accepted) → chars ≡ answerOf script
+unfolding emptyState emptyBuffer
+answered-is script e f = f ∙ ap (λ (l : Left). lineOf (l .accepted)) e

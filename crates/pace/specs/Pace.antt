@@ -8,12 +8,9 @@ use Rattle.numbers.specs.Bytes.{pick, part}
 use Rattle.numbers.specs.Numbers.{valueBe}
 use Rattle.lines.specs.Decimal.{decimalOf}
 use Rattle.payload.specs.declared.version.Version.{Version}
-use Rattle.link.specs.declared.Link.{Link}
 use Rattle.link.specs.declared.Grant.{Grant}
-use Rattle.link.specs.Call.{callOf}
-use Rattle.link.specs.Values.{Values, accepted, Outcome, outcomeOf}
-use Rattle.headunit.specs.Unit.{creationOf}
-use Rattle.pace.specs.declared.Run.{Run}
+use Rattle.link.specs.Values.{Values, accepted}
+use Rattle.state.specs.Calls.{callIn, Told, toldOf, createIn}
 
 -- ---- one call
 
@@ -41,24 +38,23 @@ placesIn length size = pick (eqb size 0) 0 (length / size)
 
 -- ---- call after call
 
--- all that calls leave: what goes from one to the next, and the link's buffers
+-- all that calls leave: how many were accepted, the link's state and its buffers
 pub record Left : Type 0 where
-  pub link : Link
   pub accepted : ℕ
+  pub state : List ℕ
   pub pool : List ℕ
   pub out : List ℕ
 
--- the code's run, with the lent buffers
-abbrev pub left : Run → List ℕ → List ℕ → Left
-left run pool out = record { link = run .link; accepted = run .accepted; pool = pool; out = out }
+abbrev pub left : ℕ → List ℕ → List ℕ → List ℕ → Left
+left n state pool out = record { accepted = n; state = state; pool = pool; out = out }
 
 -- what one more call leaves
-abbrev pub counting : ℕ → Outcome → Left
-counting n o = record { link = o .link; accepted = countedOf n (o .values); pool = o .pool; out = o .out }
+abbrev pub counting : ℕ → Told → Left
+counting n t = left (countedOf n (t .values)) (t .state) (t .pool) (t .out)
 
 -- one call, with the bytes from a place on
 abbrev pub afterCall : List ℕ → ℕ → Left → Left
-afterCall places at l = counting (l .accepted) (outcomeOf (callOf (l .link) (l .pool) (drop at places) (l .out) offered))
+afterCall places at l = counting (l .accepted) (toldOf (callIn (l .state) (l .pool) (drop at places) (l .out) offered))
 
 -- so many calls, from a place on
 unfoldable pub runFrom : ℕ → List ℕ → ℕ → ℕ → Left → Left
@@ -69,9 +65,9 @@ runFrom (suc calls) places size at l = runFrom calls places size (nextOf at size
 abbrev pub moduleVersion : Version
 moduleVersion = record { major = 5; minor = 4; patch = 1 }
 
--- a link just created, with the bench's mtu, and no call accepted
-abbrev pub beginning : Run
-beginning = record { link = creationOf moduleVersion 131084 .link; accepted = 0 }
+-- a link just created in these bytes, with the bench's mtu
+abbrev pub beginning : List ℕ → List ℕ
+beginning state = createIn state moduleVersion 131084 .state
 
 -- ---- a script
 
@@ -96,28 +92,10 @@ abbrev pub again : List ℕ → List ℕ
 again script = part script (16 + sizeAt script 4) (sizeAt script 8)
 
 -- the beginning once, a call for each of its places; then as many calls with the rest as the last number says
-unfoldable pub scriptOf : List ℕ → List ℕ → List ℕ → Left
-scriptOf script pool out =
+unfoldable pub scriptOf : List ℕ → List ℕ → List ℕ → List ℕ → Left
+scriptOf script state pool out =
     let size = numberAt script 0 in
-    runFrom (numberAt script 12) (again script) size 0 (runFrom (placesIn (sizeAt script 4) size) (opening script) size 0 (left beginning pool out))
-
--- all that the program has of it: the accepted calls, and the link's buffers
-pub record Served : Type 0 where
-  pub accepted : ℕ
-  pub pool : List ℕ
-  pub out : List ℕ
-
--- the same, put together
-abbrev pub served : ℕ → List ℕ → List ℕ → Served
-served n pool out = record { accepted = n; pool = pool; out = out }
-
--- of all that calls leave, all but the link
-abbrev pub servedBy : Left → Served
-servedBy l = served (l .accepted) (l .pool) (l .out)
-
--- what a script leaves there
-abbrev pub servedOf : List ℕ → List ℕ → List ℕ → Served
-servedOf script pool out = servedBy (scriptOf script pool out)
+    runFrom (numberAt script 12) (again script) size 0 (runFrom (placesIn (sizeAt script 4) size) (opening script) size 0 (left 0 (beginning state) pool out))
 
 -- ---- the program
 
@@ -129,6 +107,10 @@ lineOf number = decimalOf number ++ 10 ∷ []
 unfoldable pub emptyBuffer : List ℕ
 emptyBuffer = replicate 65536 0
 
+-- bytes for the link's state
+unfoldable pub emptyState : List ℕ
+emptyState = replicate 2688 0
+
 -- what is written for a script: how many calls were accepted
 abbrev pub answerOf : List ℕ → List ℕ
-answerOf script = lineOf (servedOf script emptyBuffer emptyBuffer .accepted)
+answerOf script = lineOf (scriptOf script emptyState emptyBuffer emptyBuffer .accepted)

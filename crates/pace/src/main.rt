@@ -6,12 +6,11 @@
 ghost use mathlib.Core.Path.{_≡_};
 ghost use Rattle.text.specs.Said.{said};
 ghost use Rattle.link.specs.Values.{valuesOf, accepted};
-ghost use Rattle.pace.specs.Pace.{countedOf, offered, behindOf, nextOf, placesIn, left as leftBy, runFrom, beginning, served, servedOf, lineOf, answerOf};
+ghost use Rattle.pace.specs.Pace.{countedOf, offered, behindOf, nextOf, placesIn, left as leftBy, runFrom, beginning, scriptOf, lineOf, answerOf};
 use libc::STDIN_FILENO;
 use libc::STDOUT_FILENO;
 use link::Answer;
 use link::Grant;
-use link::Link;
 use payload::version::Version;
 use text::Text;
 
@@ -22,12 +21,6 @@ const POOL: usize = 65536;
 
 // The link's out buffer.
 const OUT: usize = 65536;
-
-// What is carried from one call to the next.
-struct Run {
-    link: Link,
-    accepted: u64,
-}
 
 // The next place of `size` bytes, at least one, within a length.
 fn behind(at: usize, size: usize, length: usize) -> usize
@@ -85,30 +78,28 @@ fn next(at: usize, size: usize, length: usize) -> usize
     if place < length { place } else { 0 }
 }
 
-// So many calls, with the front of one place after the other. The link is a variable of its own: from call to call it is copied once.
+// So many calls, with the front of one place after the other. What comes back is how many calls were accepted by then.
 fn go_over(
-    run: Run,
+    before: u64,
     calls: usize,
     places: &[u8],
     size: usize,
+    link: &mut [u8],
     pool: &mut [u8],
     out: &mut [u8],
-) -> Run
-    ensures { λ r. ⌜ leftBy r (now (pool .exit)) (now (out .exit)) ≡ runFrom calls (now (places .entry)) size 0 (leftBy run (now (pool .entry)) (now (out .entry))) ⌝ }
+) -> u64
+    ensures { λ r. ⌜ leftBy r (now (link .exit)) (now (pool .exit)) (now (out .exit)) ≡ runFrom calls (now (places .entry)) size 0 (leftBy before (now (link .entry)) (now (pool .entry)) (now (out .entry))) ⌝ }
 {
-    let mut link = run.link;
-    let mut accepted = run.accepted;
+    let mut accepted = before;
     let mut left = calls;
     let mut at: usize = 0;
     while 0 < left {
-        let called = headunit::call(link, pool, &places[at..], out, offer());
-        let answer = called.answer;
+        let answer = headunit::call(link, pool, &places[at..], out, offer());
         accepted = counted(accepted, answer);
-        link = called.link;
         at = next(at, size, places.len());
         left -= 1;
     }
-    Run { link, accepted }
+    accepted
 }
 
 // How many whole places a length has.
@@ -121,23 +112,21 @@ fn count_places(length: usize, size: usize) -> usize
     length / size
 }
 
-// Before the first call.
-fn start() -> Run
-    ensures { λ r. ⌜ r ≡ beginning ⌝ }
+// The link before the first call.
+fn start(link: &mut [u8])
+    ensures { λ _. ⌜ now (link .exit) ≡ beginning (now (link .entry)) ⌝ }
 {
     let version = Version {
         major: 5,
         minor: 4,
         patch: 1,
     };
-    let created = headunit::create(version, 131084);
-    let link = created.link;
-    Run { link, accepted: 0 }
+    headunit::create(link, version, 131084);
 }
 
 // The beginning once, then as many calls with the rest as asked for.
-fn serve(script: &[u8], pool: &mut [u8], out: &mut [u8]) -> u64
-    ensures { λ r. ⌜ served r (now (pool .exit)) (now (out .exit)) ≡ servedOf (now (script .entry)) (now (pool .entry)) (now (out .entry)) ⌝ }
+fn serve(script: &[u8], link: &mut [u8], pool: &mut [u8], out: &mut [u8]) -> u64
+    ensures { λ r. ⌜ leftBy r (now (link .exit)) (now (pool .exit)) (now (out .exit)) ≡ scriptOf (now (script .entry)) (now (link .entry)) (now (pool .entry)) (now (out .entry)) ⌝ }
 {
     let size = numbers::be4(script, 0) as usize;
     let first = numbers::least(numbers::be4(script, 4) as usize, LONGEST);
@@ -147,9 +136,9 @@ fn serve(script: &[u8], pool: &mut [u8], out: &mut [u8]) -> u64
     let middle = numbers::least(start_at + first, script.len());
     let end = numbers::least(middle + again, script.len());
     let opening = &script[start_at..middle];
-    let mut run = go_over(start(), count_places(first, size), opening, size, pool, out);
-    run = go_over(run, calls, &script[middle..end], size, pool, out);
-    run.accepted
+    start(link);
+    let begun = go_over(0, count_places(first, size), opening, size, link, pool, out);
+    go_over(begun, calls, &script[middle..end], size, link, pool, out)
 }
 
 // A number and a newline.
@@ -163,9 +152,10 @@ fn spell(number: u64) -> Text
 fn answer(script: &[u8]) -> Text
     ensures { λ r. ⌜ said r ≡ answerOf (now (script .entry)) ⌝ }
 {
+    let mut link = [0u8; state::LENGTH];
     let mut pool = [0u8; POOL];
     let mut out = [0u8; OUT];
-    spell(serve(script, &mut pool, &mut out))
+    spell(serve(script, &mut link, &mut pool, &mut out))
 }
 
 fn report(text: Text) {

@@ -1,16 +1,10 @@
--- What the C functions make of a lent map. Assumes nothing.
+-- What the C functions make of an answer of `blocks`. Assumes nothing.
 use Prim.Native.Nat.{ℕ}
 use mathlib.Core.List.{List}
-use lib.Dec.{eqb}
 use lib.ListN.{length}
-use Rattle.numbers.specs.Bytes.{pick}
 use Rattle.blocks.specs.declared.Found.{Found}
 use Rattle.blocks.specs.declared.Found.the-variants.{Block, Missing}
 use Rattle.blocks.specs.Map.{nthBlock}
-
--- a map of 256 entries changes; any other is left as it is
-unfoldable pub ifWhole : (List ℕ → List ℕ) → List ℕ → List ℕ
-ifWhole change map = pick (eqb (length map) 256) (change map) map
 
 -- a found block's number; the map's length where there is none
 abbrev pub numberOf : ℕ → Found → ℕ

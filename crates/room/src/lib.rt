@@ -1,33 +1,11 @@
 // The reassembly room behind C functions: the way in for the comparison with an independent room and for its benchmark.
-// It holds no rule: each function calls its namesake of `blocks` on lent bytes. A map of any length will do, but `release` leaves one that has not 256 bytes
-// as it is.
+// It holds no rule: each function calls its namesake of `blocks` on lent bytes. A map of any length will do.
 ghost use mathlib.Core.Path.{_≡_};
-ghost use lib.Dec.{eqb};
-ghost use lib.ListN.{length};
-ghost use Rattle.numbers.specs.Bytes.{pick};
 ghost use Rattle.blocks.specs.Map.{neededFor, heldBy, claimed, lookedFor, released};
 ghost use Rattle.blocks.specs.Pool.{appended, delivered};
-ghost use Rattle.room.specs.Room.{ifWhole, placeIn};
+ghost use Rattle.room.specs.Room.{placeIn};
 use blocks::Found;
 use blocks::Owner;
-
-// The map by value.
-fn array_of(map: &[u8]) -> [u8; 256]
-    requires { ⌜ length (now map) ≡ 256 ⌝ }
-    ensures { λ r. ⌜ r ≡ now (map .entry) ⌝ }
-{
-    let mut array = [0u8; 256];
-    bytes::copy(map, &mut array);
-    array
-}
-
-// Puts a map back.
-fn put_back(array: [u8; 256], map: &mut [u8])
-    requires { ⌜ length (now map) ≡ 256 ⌝ }
-    ensures { λ _. ⌜ now (map .exit) ≡ array ⌝ }
-{
-    bytes::copy(&array, map);
-}
 
 #[no_mangle]
 pub extern "C" fn tilambok_room_needed(total: usize) -> usize
@@ -43,7 +21,7 @@ pub extern "C" fn tilambok_room_held(map: &[u8], owner: u8) -> usize
     blocks::held(map, Owner(owner))
 }
 
-// How many blocks the search looked at; the map may be of any length.
+// How many blocks the search looked at.
 #[no_mangle]
 pub extern "C" fn tilambok_room_claim(map: &mut [u8], count: usize, owner: u8) -> usize
     ensures { λ r. ⌜ r ≡ lookedFor count (now (map .entry)) ⌝ }
@@ -53,16 +31,10 @@ pub extern "C" fn tilambok_room_claim(map: &mut [u8], count: usize, owner: u8) -
 }
 
 #[no_mangle]
-pub extern "C" fn tilambok_room_release(map: &mut [u8], low: u8, high: u8) -> u8
-    ensures { λ r. ⌜ r ≡ pick (eqb (length (now (map .entry))) 256) 1 0 ⌝ }
-    ensures { λ _. ⌜ now (map .exit) ≡ ifWhole (released low high) (now (map .entry)) ⌝ }
+pub extern "C" fn tilambok_room_release(map: &mut [u8], low: u8, high: u8)
+    ensures { λ _. ⌜ now (map .exit) ≡ released low high (now (map .entry)) ⌝ }
 {
-    if map.len() == 256 {
-        let after = blocks::release(array_of(map), Owner(low), Owner(high));
-        put_back(after, map);
-        return 1;
-    }
-    0
+    blocks::release(map, Owner(low), Owner(high));
 }
 
 #[no_mangle]

@@ -2,11 +2,10 @@
 -- Assumes nothing.
 use Prim.Native.Nat.{ℕ, _+_, _-_, _*_, _≤_, _<_}
 use mathlib.Core.Path.{_≡_, refl, ap, _∙_, sym}
-use mathlib.Core.List.{List, [], _++_, append-nil}
+use mathlib.Core.List.{List, [], _++_}
 use native.Mathlib.Omega.{arith}
 use lib.Dec.{eqb}
-use lib.ListN.{length, take, drop, length-append, drop-of-length-le}
-use lib.Seq.{take-all, take-at}
+use lib.ListN.{length, length-append}
 use borrow.Rule.Slice.PartMut.{putMid}
 use borrow.Author.Tests.{eq-eqb, ne-eqb, le-leb, lt-leb, eqb-true}
 use Rattle.numbers.specs.Bytes.{putAt, laid}
@@ -94,19 +93,3 @@ bare-put json bulk out q r z s c e =
     let n : length json - 0 ≡ length json = omega arith in
     let g : q ≡ laid json out = e ∙ rw (n, c) in
     ap (wrote (Bytes (length json))) g ∙ rw (eq-eqb (length bulk) 0 z, le-leb (length json) (length out) s)
-
--- bytes copied by way of other bytes m
-pub by-way : (s z t : List ℕ) {m r : List ℕ} → length t ≡ length s → m ≡ take (length s) s ++ drop (length s) z
-    → r ≡ take (length (take (length s - 0) (drop 0 m))) (take (length s - 0) (drop 0 m)) ++ drop (length (take (length s - 0) (drop 0 m))) t
-    → r ≡ s
-by-way s z t {m} l e f =
-    let y : length s - 0 ≡ length s = omega arith in
-    let all : take (length s) s ≡ s = take-all (length s) s (omega arith) in
-    let near : take (length s) m ≡ s = rw (e, all) (take-at s (drop (length s) z) (length s) refl) in
-    let h : length t ≤ length s = omega arith in
-    f ∙ rw (y, near, all, drop-of-length-le t {i = length s} h) (append-nil s)
-
-pub copied : (s t : List ℕ) {r : List ℕ} → length t ≡ length s → r ≡ take (length s) s ++ drop (length s) t → r ≡ s
-copied s t l e =
-    let h : length t ≤ length s = omega arith in
-    e ∙ rw (take-all (length s) s (omega arith), drop-of-length-le t {i = length s} h) (append-nil s)

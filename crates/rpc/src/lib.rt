@@ -15,9 +15,6 @@ ghost use Rattle.rpc.specs.Layout.{layoutBytes, fieldsIn, functionOf, qu
 ghost use Rattle.rpc.specs.Read.{messageIn, readOf};
 ghost use Rattle.rpc.specs.Write.{bareOf, wholeOf, writeOf};
 
-// The most bytes that are copied by way of an array.
-const SHORT: usize = 1024;
-
 // Kinds of number that are never exchanged by mistake.
 pub struct FunctionId(pub u32);
 
@@ -397,28 +394,6 @@ fn word_of(form: Form, fields: Fields) -> u32
     fields.kind as u32 * id_span(form) + fields.id
 }
 
-// Copies a short slice by way of an array of its own. That lies apart from both, so the compiler makes one move of the two copies, with no test for overlap.
-fn copy_short(source: &[u8], target: &mut [u8])
-    requires { ⌜ (length (now source) ≤ 1024) × (length (now target) ≡ length (now source)) ⌝ }
-    ensures { λ _. ⌜ now (target .exit) ≡ now (source .entry) ⌝ }
-{
-    let n = source.len();
-    let mut between = [0u8; SHORT];
-    bytes::copy(source, &mut between);
-    bytes::copy(&between[0..n], target);
-}
-
-fn copy(source: &[u8], target: &mut [u8])
-    requires { ⌜ length (now target) ≡ length (now source) ⌝ }
-    ensures { λ _. ⌜ now (target .exit) ≡ now (source .entry) ⌝ }
-{
-    if source.len() <= SHORT {
-        copy_short(source, target);
-    } else {
-        bytes::copy(source, target);
-    }
-}
-
 // Header, JSON and bulk data to the front of out.
 fn put_whole(form: Form, fields: Fields, json: &[u8], bulk: &[u8], out: &mut [u8])
     requires { ⌜ (kindFits form (fields .kind) ≡ true) × ((idFits form (fields .id) ≡ true) × (12 + length (now json) + length (now bulk) ≤ length (now out))) ⌝ }
@@ -429,8 +404,8 @@ fn put_whole(form: Form, fields: Fields, json: &[u8], bulk: &[u8], out: &mut [u8
     numbers::put_be4(out, 0, word_of(form, fields));
     numbers::put_be4(out, 4, fields.number);
     numbers::put_be4(out, 8, fields.size);
-    copy(json, &mut out[12..front]);
-    copy(bulk, &mut out[front..end]);
+    numbers::copy(json, &mut out[12..front]);
+    numbers::copy(bulk, &mut out[front..end]);
 }
 
 // Version 1's RPC: the JSON alone.
@@ -444,7 +419,7 @@ fn write_bare(json: &[u8], bulk: &[u8], out: &mut [u8]) -> frame::Written
     if out.len() < end {
         return frame::Written::Refused(frame::refusal::OUT_TOO_SMALL);
     }
-    copy(json, &mut out[0..end]);
+    numbers::copy(json, &mut out[0..end]);
     frame::Written::Bytes(end)
 }
 

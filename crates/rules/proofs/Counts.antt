@@ -10,7 +10,6 @@ use lib.ListN.{length}
 use borrow.Author.Tests.{eqb-true, eq-eqb, leb-true, le-leb}
 use Rattle.numbers.specs.Bytes.{pick}
 use Rattle.numbers.proofs.Choices.{and-yes, and-both, same-or-not}
-use Rattle.frame.specs.declared.SessionId.{SessionId}
 use Rattle.link.proofs.Table.{owner-next}
 use Rattle.blocks.specs.Map.{heldBy, heldByAll, freeIn}
 use Rattle.blocks.proofs.Counts.{held-mine, held-not, all-none}
@@ -22,7 +21,8 @@ use Rattle.link.specs.declared.Link.{Link}
 use Rattle.link.specs.declared.Grant.{Grant}
 use Rattle.link.specs.State.{allFrom, ownerOf, sharesIn, freeFits, blocksFit, rowFits, rulesHold, settingsFit, grantFits, guardOf}
 use Rattle.link.proofs.TableRules.{heldsIn, forty}
-use Rattle.rules.specs.Parts.{noneLive, sessionFits, distinctIn, holdsNeed, openFit, rowSound, ofSession, heldSum, shareSum, Summed}
+use Rattle.rules.specs.declared.Overview.{Overview}
+use Rattle.rules.specs.Parts.{noneLive, sessionFits, idsOf, distinctIn, holdsNeed, openFit, rowSound, ofSession, heldSum, shareSum, Summed, Surveyed}
 use Rattle.rules.proofs.Turns.{distinct-ids}
 
 -- ---- owners have no more blocks than there are
@@ -75,7 +75,7 @@ by-pick : {X : Type 0} (t a b : Bool) → pick t a b ≡ true → (t ≡ true �
 by-pick true a b e f g = f refl e
 by-pick false a b e f g = g refl e
 
-idle-held : (ms : List Reassembly) → noneLive ms ≡ true → heldIn ms ≡ 0
+pub idle-held : (ms : List Reassembly) → noneLive ms ≡ true → heldIn ms ≡ 0
 unfolding heldIn messageBlocks
 idle-held [] e = refl
 idle-held (m ∷ ms) e =
@@ -106,7 +106,7 @@ module _ (map : List ℕ) where
   abbrev Exact : ℕ → ℕ → List Reassembly → Bool
   Exact i n ms = allFrom n (λ (place : ℕ) (m : Reassembly). eqb (heldBy (ownerOf i place) map) (pick (m .live) (needOf (m .total)) 0)) ms
 
-  idle-open : (i n : ℕ) (ms : List Reassembly) → noneLive ms ≡ true → Open i n ms ≡ true
+  pub idle-open : (i n : ℕ) (ms : List Reassembly) → noneLive ms ≡ true → Open i n ms ≡ true
   unfolding holdsNeed
   idle-open i n [] e = refl
   idle-open i n (m ∷ ms) e =
@@ -262,26 +262,32 @@ module _ (map : List ℕ) where
 -- ---- what a survey finds
 
 -- the rules of a link, by what one pass over its rows found
-rules-found : (l : Link) (fit : Bool) (held shared : ℕ) (ids : List SessionId) → length (l .owners) ≡ 256 → Summed l fit held shared ids
-    → distinctIn ids && (fit && (leb shared 256 && eqb (held + freeIn (l .owners)) 256)) ≡ rulesHold l
+rules-found : (l : Link) (fit : Bool) (held shared : ℕ) → length (l .owners) ≡ 256 → Summed l fit held shared
+    → distinctIn (idsOf (l .rows)) && (fit && (leb shared 256 && eqb (held + freeIn (l .owners)) 256)) ≡ rulesHold l
 unfolding rulesHold
-rules-found l fit held shared ids whole s =
-    rw (s .names, s .fits, s .shares, s .holds, distinct-ids (l .rows), rules-same (l .owners) (l .version .major) (l .rows) whole (s .eight) (s .five))
+rules-found l fit held shared whole s =
+    rw (s .fits, s .shares, s .holds, distinct-ids (l .rows), rules-same (l .owners) (l .version .major) (l .rows) whole (s .eight) (s .five))
 
-module _ (l : Link) (pool : ℕ) (g : Grant) (fit : Bool) (held shared : ℕ) (ids : List SessionId) (whole : length (l .owners) ≡ 256) (s : Summed l fit held shared ids) where
-  -- refusal 10, by what was found
-  pub guard-found : (settings granted apart : Bool) (free : ℕ) → settings ≡ settingsFit (l .version) (l .mtu) → granted ≡ grantFits g → apart ≡ distinctIn ids → free ≡ freeIn (l .owners)
-      → eqb pool 65536 && (settings && (granted && (apart && (fit && (leb shared 256 && eqb (held + free) 256))))) ≡ guardOf l pool g
-  unfolding guardOf
-  guard-found settings granted apart free a b c d = rw (a, b, c, d, rules-found l fit held shared ids whole s)
-
-  -- and the sum of shares, where it is not earned
-  pub shares-found : guardOf l pool g ≡ true → shared ≡ sharesIn (l .rows)
+module _ (l : Link) (pool : ℕ) (g : Grant) (fit : Bool) (held shared : ℕ) (whole : length (l .owners) ≡ 256) (s : Summed l fit held shared) where
+  -- the sum of shares, where refusal 10 is not earned
+  shares-found : guardOf l pool g ≡ true → shared ≡ sharesIn (l .rows)
   unfolding guardOf
   shares-found e =
       let inner = and-both (eqb pool 65536) (settingsFit (l .version) (l .mtu) && (grantFits g && rulesHold l)) e .1 in
       let rules = and-both (grantFits g) (rulesHold l) (and-both (settingsFit (l .version) (l .mtu)) (grantFits g && rulesHold l) inner .1) .1 in
       let rest : Bool = leb shared 256 && eqb (held + freeIn (l .owners)) 256 in
-      let tests : distinctIn ids && (fit && rest) ≡ true = rules-found l fit held shared ids whole s ∙ rules in
-      let sound = and-both fit rest (and-both (distinctIn ids) (fit && rest) tests .1) .0 in
+      let tests : distinctIn (idsOf (l .rows)) && (fit && rest) ≡ true = rules-found l fit held shared whole s ∙ rules in
+      let sound = and-both fit rest (and-both (distinctIn (idsOf (l .rows))) (fit && rest) tests .1) .0 in
       s .shares ∙ all-sums (l .owners) (l .version .major) 0 (l .rows) (sym (s .fits) ∙ sound) .1
+
+  -- what is told, by what was found. The limit of shares has a name, so that a search for it says the code's where that is another
+  pub overview-told : {v : Overview} {settings granted apart rest : Bool} {limit : ℕ} → settings ≡ settingsFit (l .version) (l .mtu) → granted ≡ grantFits g
+      → apart ≡ distinctIn (idsOf (l .rows)) → rest ≡ eqb (held + freeIn (l .owners)) 256 → v .ids ≡ idsOf (l .rows) → v .shared ≡ shared
+      → v .fit ≡ eqb pool 65536 && (settings && (granted && (apart && (fit && (leb shared limit && rest))))) → limit ≡ 256
+      → (v .fit ≡ guardOf l pool g) × ((v .shared ≡ shareSum (l .rows)) × ((v .ids ≡ idsOf (l .rows)) × (v .fit ≡ true → Surveyed l v)))
+  unfolding guardOf
+  overview-told {v} a b c d names sum tests e =
+      let fits : v .fit ≡ guardOf l pool g = tests ∙ rw (a, b, c, d, e, rules-found l fit held shared whole s) in
+      let seen : v .fit ≡ true → Surveyed l v
+      = λ h. record { shares = sum ∙ shares-found (sym fits ∙ h); names = names; bound = omega (arith, s .bound); eight = s .eight } in
+      (fits, (sum ∙ s .shares, (names, seen)))

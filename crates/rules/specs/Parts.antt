@@ -74,14 +74,21 @@ unfoldable pub shareSum : List Row → ℕ
 shareSum [] = 0
 shareSum (r ∷ rs) = ofSession shareOf r + shareSum rs
 
--- what one pass over the rows of a link finds: whether they fit, what they hold and share, their ids. The rows are eight, and each has five messages.
-pub record Summed (l : Link) (fit : Bool) (held shared : ℕ) (ids : List SessionId) : Type 0 where
+-- what one row comes to: whether it fits, what it holds and shares
+pub record Looked (major : ℕ) (map : List ℕ) (i : ℕ) (r : Row) (fit : Bool) (held shared : ℕ) : Type 0 where
+  pub fits : fit ≡ rowSound major map i r
+  pub holds : held ≡ ofSession heldOf r
+  pub most : held ≤ 83886080
+  pub shares : shared ≡ ofSession shareOf r
+  pub bound : shared ≤ 83886080
+
+-- what one pass over the rows of a link finds. The rows are eight, and each has five messages.
+pub record Summed (l : Link) (fit : Bool) (held shared : ℕ) : Type 0 where
   pub fits : fit ≡ allFrom 0 (rowSound (l .version .major) (l .owners)) (l .rows)
   pub holds : held ≡ heldSum (l .rows)
   pub most : held ≤ 671088640
   pub shares : shared ≡ shareSum (l .rows)
   pub bound : shared ≤ 671088640
-  pub names : ids ≡ idsOf (l .rows)
   pub eight : length (l .rows) ≡ 8
   pub five : FiveEach (l .rows)
 

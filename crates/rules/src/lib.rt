@@ -1,20 +1,19 @@
 // The link's state rules, in code: refusal 10 of document 01, and what a call looks up in the table of rows.
-// It reads the state and changes nothing; it knows no frame and no pool but its length.
-// The link is handed whole to one function, `survey`, which goes over the rows once: each copy of it is 1,480 bytes.
+// It reads the state's lent bytes and changes nothing; it knows no frame and no pool but its length. One function, `survey`, goes over the rows once.
 ghost use mathlib.Core.Path.{_≡_};
-ghost use Prim.Native.Nat.{ℕ, _<_, _≤_, min};
+ghost use Prim.Native.Nat.{_+_, _<_, _≤_};
 ghost use mathlib.Core.Bool.{true, _||_};
 ghost use lib.Dec.{eqb};
 ghost use lib.ListN.{length, drop};
-ghost use Rattle.numbers.specs.Bytes.{pick};
+ghost use Rattle.blocks.specs.Map.{freeIn};
 ghost use Rattle.session.specs.Decide.{heldOf, shareOf};
-ghost use Rattle.link.specs.State.{allFrom, settingsFit, roomFits, versionAllowed, serviceAt, messageFits, unsettledFits, freeFits, grantFits, guardOf};
-ghost use Rattle.rules.specs.Parts.{noneLive, sessionFits, idsOf, indexIn, lowestUnused, missingIn, distinctIn, holdsNeed, openFit, rowSound, ofSession, shareSum, Summed, Surveyed};
+ghost use Rattle.link.specs.State.{all, allFrom, settingsFit, roomFits, versionAllowed, serviceAt, messageFits, unsettledFits, freeFits, grantFits, guardOf};
+ghost use Rattle.state.specs.Layout.{rowOf, linkOf};
+ghost use Rattle.rules.specs.Parts.{noneLive, sessionFits, idsOf, indexIn, lowestUnused, missingIn, distinctIn, holdsNeed, openFit, rowSound, ofSession, shareSum, Looked, Summed, Surveyed};
 use blocks::Owner;
 use frame::ServiceType;
 use frame::SessionId;
 use link::Grant;
-use link::Link;
 use payload::version::Version;
 use session::Reassembly;
 use session::Row;
@@ -247,38 +246,89 @@ fn share_of(row: Row) -> usize
     session::share(row)
 }
 
-// What one pass over the rows finds.
+// What a row comes to, or all rows.
 struct Sums {
     fit: bool,
     held: usize,
     shared: usize,
-    ids: [SessionId; 8],
 }
 
-// One pass over the rows. They are eight and each has five messages, for the caller's proof.
-fn sum_rows(link: Link) -> Sums
-    ensures { λ r. ⌜ Summed link (r .fit) (r .held) (r .shared) (r .ids) ⌝ }
+// Row i by its bytes. Where no message is open, neither messages nor blocks are looked at.
+fn look(major: u8, map: &[u8], i: usize, bytes: &[u8]) -> Sums
+    requires { ⌜ (i < 8) × (length (now bytes) ≡ 129) ⌝ }
+    ensures { λ r. ⌜ Looked major (now (map .entry)) i (rowOf (now (bytes .entry))) (r .fit) (r .held) (r .shared) ⌝ }
 {
+    if !state::is_quiet(bytes) {
+        let row = state::read_row(bytes);
+        return Sums {
+            fit: row_fits(major, map, i, row),
+            held: held_of(row),
+            shared: share_of(row),
+        };
+    }
+    let head = state::head_of(bytes);
+    if head.id.0 == 0 {
+        return Sums {
+            fit: (head.guarantee == 0) & (head.cap == 0),
+            held: 0,
+            shared: 0,
+        };
+    }
+    Sums {
+        fit: (head.guarantee <= head.cap)
+            & ((head.cap <= 256) & version_allowed(major, head.version)),
+        held: 0,
+        shared: head.guarantee as usize,
+    }
+}
+
+// One pass over the rows.
+fn sum_rows(link: &[u8]) -> Sums
+    requires { ⌜ length (now link) ≡ 2688 ⌝ }
+    ensures { λ r. ⌜ Summed (linkOf (now (link .entry))) (r .fit) (r .held) (r .shared) ⌝ }
+{
+    let major = state::major(link);
+    let owners = state::owners(link);
     let mut fit = true;
     let mut held: usize = 0;
     let mut shared: usize = 0;
-    let mut ids = [SessionId(0); 8];
     let mut i: usize = 0;
     while i < 8 {
-        let row = link.rows[i];
-        fit = fit & row_fits(link.version.major, &link.owners, i, row);
-        held += held_of(row);
-        shared += share_of(row);
-        let id = row.id;
-        ids[i] = id;
+        let one = look(major, owners, i, state::row_bytes(link, i));
+        fit = fit & one.fit;
+        held += one.held;
+        shared += one.shared;
         i += 1;
     }
     Sums {
         fit: fit,
         held: held,
         shared: shared,
-        ids: ids,
     }
+}
+
+// Whether every block is free.
+fn all_free(map: &[u8]) -> bool
+    ensures { λ r. ⌜ r ≡ all (λ owner. eqb owner 0) (now (map .entry)) ⌝ }
+{
+    let mut free = true;
+    let mut i: usize = 0;
+    while i < map.len() {
+        free = free & (map[i] == 0);
+        i += 1;
+    }
+    free
+}
+
+// Whether so many blocks and the free ones make 256. Where none is held all must be free, which is seen faster than counted.
+fn rest_free(map: &[u8], held: usize) -> bool
+    requires { ⌜ (length (now map) ≡ 256) × (held ≤ 671088640) ⌝ }
+    ensures { λ r. ⌜ r ≡ eqb (held + freeIn (now (map .entry))) 256 ⌝ }
+{
+    if held == 0 {
+        return all_free(map);
+    }
+    held + blocks::free_count(map) == 256
 }
 
 // What a call needs to know of all rows.
@@ -293,16 +343,21 @@ pub struct Overview {
 
 // Whether refusal 10 is earned: the pool's length, the settings, the offer and the state are as they must be, or not. If each open message holds
 // what it needs, and these blocks and the free ones are the whole map, no other owner has any.
-pub fn survey(link: Link, pool: usize, grant: Grant) -> Overview
-    ensures { λ r. ⌜ (r .fit ≡ guardOf link pool grant) × ((r .shared ≡ shareSum (link .rows)) × ((r .ids ≡ idsOf (link .rows)) × (r .fit ≡ true → Surveyed link r))) ⌝ }
+pub fn survey(link: &[u8], pool: usize, grant: Grant) -> Overview
+    requires { ⌜ length (now link) ≡ 2688 ⌝ }
+    ensures { λ r. ⌜ (r .fit ≡ guardOf (linkOf (now (link .entry))) pool grant)
+        × ((r .shared ≡ shareSum (linkOf (now (link .entry)) .rows))
+        × ((r .ids ≡ idsOf (linkOf (now (link .entry)) .rows))
+        × (r .fit ≡ true → Surveyed (linkOf (now (link .entry))) r))) ⌝ }
 {
-    let version = link.version;
+    let version = state::version(link);
     let sums = sum_rows(link);
-    let free = blocks::free_count(&link.owners);
-    let ids = sums.ids;
-    let sound = distinct(ids) & (sums.fit & ((sums.shared <= 256) & (sums.held + free == 256)));
+    let ids = state::ids(link);
+    let rest = rest_free(state::owners(link), sums.held);
+    let sound = distinct(ids) & (sums.fit & ((sums.shared <= 256) & rest));
     Overview {
-        fit: (pool == 65536) & (settings_fit(version, link.mtu) & (grant_fits(grant) & sound)),
+        fit: (pool == 65536)
+            & (settings_fit(version, state::mtu(link)) & (grant_fits(grant) & sound)),
         shared: sums.shared,
         ids: ids,
     }

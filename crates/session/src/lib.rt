@@ -7,7 +7,7 @@ ghost use mathlib.Core.Bool.{Bool};
 ghost use Prim.Native.Nat.{_+_, _-_, _^_, _<_, _≤_, min, max};
 ghost use lib.ListN.{length};
 ghost use Rattle.session.specs.Rules.{replyVersion, versionFits, mtuFits, isRunning, serviceFits, takesBeats, commandFits, barredBy};
-ghost use Rattle.session.specs.Decide.{placeOf, needOf, messageBlocks, heldIn, heldOf, shareOf, firstOf, dueNumber, sized, nextFor, singleOf, contentOf, startable, startingOf, endable, hashOf, endingOf, controlOf, rowAfter};
+ghost use Rattle.session.specs.Decide.{placeOf, needOf, messageBlocks, heldIn, heldOf, shareOf, firstOf, dueNumber, sized, nextFor, singleOf, startable, startingOf, endable, hashOf, endingOf, controlOf, rowAfter};
 ghost use Rattle.session.specs.Rows.{messageAt, noReassembly, freeRow, openedRow, ackedRow, settledRow, admittedRow, fedRow, droppedRow, withService, startedRow, stoppedRow, closedRow};
 use frame::Header;
 use frame::MessageId;
@@ -406,7 +406,7 @@ fn message_of(row: Row, header: Header) -> Reassembly
 }
 
 // A First Frame: 18 to 21. `others` is the room that the other sessions take.
-fn first(row: Row, others: u32, header: Header, total: u32, count: u32) -> Act
+pub fn first(row: Row, others: u32, header: Header, total: u32, count: u32) -> Act
     ensures { λ r. ⌜ r ≡ firstOf row others header total count ⌝ }
 {
     if !frame::totals_fit(total as usize, count as usize) {
@@ -451,7 +451,7 @@ fn sizes_fit(message: Reassembly, size: u32) -> bool
 }
 
 // A consecutive frame of a message: 22 to 25, and 11 where the last one finds too little room in out.
-fn next_for(message: Reassembly, room: usize, header: Header) -> Act
+pub fn next_for(message: Reassembly, room: usize, header: Header) -> Act
     ensures { λ r. ⌜ r ≡ nextFor message room header ⌝ }
 {
     if !message.live {
@@ -475,26 +475,14 @@ fn next_for(message: Reassembly, room: usize, header: Header) -> Act
     Act::Deliver
 }
 
-fn single(room: usize, header: Header) -> Act
+// A Single Frame: 11 where out has too little room.
+pub fn single(room: usize, header: Header) -> Act
     ensures { λ r. ⌜ r ≡ singleOf room header ⌝ }
 {
     if room < header.size as usize {
         return Act::Refuse(refusal::OUT_TOO_SMALL);
     }
     Act::Single
-}
-
-// A Single, First or consecutive frame. total and count are a First Frame's.
-pub fn content(row: Row, others: u32, room: usize, header: Header, total: u32, count: u32) -> Act
-    ensures { λ r. ⌜ r ≡ contentOf row others room header total count ⌝ }
-{
-    if header.kind == 1 {
-        return single(room, header);
-    }
-    if header.kind == 2 {
-        return first(row, others, header, total, count);
-    }
-    next_for(message_of(row, header), room, header)
 }
 
 fn is_startable(row: Row, service: ServiceType) -> bool

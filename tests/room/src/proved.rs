@@ -12,7 +12,7 @@ mod c {
             count: usize,
             owner: u8,
         ) -> usize;
-        pub fn tilambok_room_release(map: *mut u8, map_length: usize, low: u8, high: u8) -> u8;
+        pub fn tilambok_room_release(map: *mut u8, map_length: usize, low: u8, high: u8);
         pub fn tilambok_room_append(
             map: *const u8,
             map_length: usize,
@@ -60,9 +60,9 @@ pub fn claim(map: &mut [u8], count: usize, owner: u8) -> usize {
     unsafe { c::tilambok_room_claim(map.as_mut_ptr(), map.len(), count, owner) }
 }
 
-/// Frees the blocks of the owners from `low` to `high`; 0 if the map is of
-/// another length.
-pub fn release(map: &mut [u8], low: u8, high: u8) -> u8 {
+/// Frees the blocks of the owners from `low` to `high`.
+/// The map may be of any length.
+pub fn release(map: &mut [u8], low: u8, high: u8) {
     unsafe { c::tilambok_room_release(map.as_mut_ptr(), map.len(), low, high) }
 }
 

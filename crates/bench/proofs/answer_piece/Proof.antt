@@ -7,13 +7,14 @@ use Rattle.bench.proofs.answer_piece.Tie as tie
 
 returns : tie.Need-returns
 returns c =
-    let t = c .before .before .before .before .before .before .before .before .before .before .before .take-piece in
-    (then-written ((c .flush .ensures) .0 .0) (t .ensures .0), then-kept (t .last .1 .1 .0) ((c .flush .ensures) .0 .1) (t .ensures .1))
+    let t = c .before .before .before .before .before .before .before .before .before .before .before .before .take-piece in
+    let e = c .flush .ensures .0 in
+    (then-written (e .0) (e .1 .1) (t .ensures .0), then-kept (t .last .1 .1 .0) (e .1 .0) (t .ensures .1))
 
 pub answer-piece-spec : {M : Type 1} → statement M
 answer-piece-spec =
     tie.close
     (tie.spec
     (λ c κs. search needs) (λ c κs. search needs) (λ c. search needs) (λ c. search needs)  -- take-piece-requires, flush-requires, same-length, same-length-2
-    (λ c. search needs) (λ c. search needs)  -- same-length-3, same-length-4
+    (λ c. search needs) (λ c. search needs) (λ c. search needs)  -- same-length-3, same-length-4, same-length-5
     returns)

@@ -9,10 +9,13 @@ use Rattle.bench.proofs.answered.Statement.{statement}
 use Rattle.bench.proofs.answered.Tie as tie
 
 returns : tie.Need-returns
-returns c = (refl, (c .past .ensures) ∙ ap (λ (o : Output). min ((c .before .before .before .before .args .state) .waiting + sizeOf o) (c .before .before .before .before .args .texts)) (sym ((c .before .before .output .given) .1)))
+returns c =
+    let told = c .before .before in
+    let a = told .before .before .args in
+    (refl, (c .past .ensures ∙ ap (λ (o : Output). min (a .state .waiting + sizeOf o) (a .texts)) (sym (told .output .given .1)), refl))
 
 returns-2 : tie.Need-returns-2
-returns-2 c = absurd (rw ((c .enum-told .given) .1) at (c .before .before .pre))
+returns-2 c = absurd (rw (c .enum-told .given .1) at (c .before .before .pre))
 
 pub answered-spec : {M : Type 1} → statement M
 answered-spec =

@@ -8,10 +8,17 @@ use Rattle.bench.proofs.made_room.Statement.{statement}
 use Rattle.bench.proofs.made_room.Tie as tie
 
 returns : tie.Need-returns
-returns c = ((waits-on ((c .before .before .before .before .args .out) .now) ((c .before .before .before .before .args .texts) .now) ((c .before .before .before .before .args .state) .waiting) (c .if1 .taken), refl), omega (arith, (c .if1 .taken), (c .before .before .before .before .pre)))
+returns c =
+    let start = c .before .before .before .before in
+    let a = start .args in
+    ((waits-on (a .out .now) (a .texts .now) (a .state .waiting) (c .if1 .taken), (refl, refl)), omega (arith, c .if1 .taken, start .pre))
 
 returns-2 : tie.Need-returns-2
-returns-2 c = (((c .flush .ensures) .0 .0 ∙ waits-no ((c .before .before .before .before .before .args .out) .now) ((c .before .before .before .before .before .args .texts) .now) ((c .before .before .before .before .before .args .state) .waiting) (c .before .if1 .left), (c .flush .ensures) .0 .1), omega (arith, (c .flush .ensures) .0 .0, (c .before .before .before .before .before .pre)))
+returns-2 c =
+    let start = c .before .before .before .before .before in
+    let a = start .args in
+    let e = c .flush .ensures .0 in
+    ((e .0 ∙ waits-no (a .out .now) (a .texts .now) (a .state .waiting) (c .before .if1 .left), e .1), omega (arith, e .0, start .pre))
 
 pub made-room-spec : {M : Type 1} → statement M
 made-room-spec =

@@ -6,7 +6,11 @@ use Rattle.benchline.proofs.refused.Statement.{statement}
 use Rattle.benchline.proofs.refused.Tie as tie
 
 returns : tie.Need-returns
-returns c = λ pool out. refused-is (c .before .before .before .before .before .before .before .args .text .now) (c .before .before .before .before .before .before .before .args .bench) pool out (c .before .before .before .before .before .next-number .ensures) (c .before .before .before .put-not-taken .ensures)
+returns c =
+    let put = c .before .before in
+    let number = put .before .before in
+    let a = number .before .before .args in
+    λ state pool out. refused-is (a .lines) (a .text .now) (number .next-number .ensures) state pool out (put .put-not-taken .ensures)
 
 pub refused-spec : {M : Type 1} → statement M
 refused-spec =

@@ -9,7 +9,7 @@ use Rattle.blocks.proofs.copy_block.Tie as tie
 returns : tie.Need-returns
 returns c =
     let a = (c .before .before .before .before .before .before .before .before .before .before .before .before .before .args) in
-    halves (a .source .now) (a .target .now) (omega arith) (omega arith) (c .before .before .before .before .before .before .before .copy-short .ensures) (c .before .before .copy-short2 .ensures)
+    halves (a .source .now) (a .target .now) (omega arith) (omega arith) (c .before .before .before .before .before .before .before .copy .ensures) (c .before .before .copy2 .ensures)
 
 pub copy-block-spec : {M : Type 1} → statement M
 copy-block-spec =
@@ -21,6 +21,6 @@ copy-block-spec =
     (λ c. search needs) (λ c. search needs) (λ c. search needs)  -- &source[HALF..BLOCK_SIZE]
     (λ c. search needs) (λ c. search needs) (λ c. search needs)  -- &mut target[HALF..BLOCK_SIZE]
     (λ c κs. search needs)
-    (λ c κs. search needs)  -- copy_short(source, target)
+    (λ c κs. search needs)  -- numbers::copy(source, target)
     (λ c. search needs) returns
     (λ c. search needs) (λ c. search needs))

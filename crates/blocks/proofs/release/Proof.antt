@@ -12,22 +12,20 @@ use Rattle.blocks.proofs.release.Statement.{statement}
 use Rattle.blocks.proofs.release.Tie as tie
 
 abbrev Inv-loop : tie.InvT-loop
-Inv-loop first last after₀ block₀ after block = (block .0 ≤ 256) × (length after ≡ 256) × (take (block .0) after ++ released first last (drop (block .0) after) ≡ released first last after₀)
+Inv-loop map₀ first last i₀ map i =
+    (i ≤ length map) × (length map ≡ length map₀) × (take i map ++ released first last (drop i map) ≡ released first last map₀)
 
 abbrev μ-loop : tie.MeasureT-loop
-μ-loop first last after₀ block₀ after block = 256 - block .0
-
-loop-holds : tie.Need-loop-holds Inv-loop μ-loop
-loop-holds c = (omega arith, (c .good .0 .1 .0 .1), refl)
+μ-loop map₀ first last i₀ map i = length map₀ - i
 
 loop-again : tie.Need-loop-again Inv-loop μ-loop
 loop-again c =
     let l = (c .before .before .before .loop) in
-    let h : l .block .0 < length (l .after) = omega arith in
-    (omega arith, simp length-set (omega arith), release-turn _ _ (l .after) (l .block .0) h (c .entry-after .ensures) ∙ l .inv .2)
+    let h : l .i < length (l .map) = omega arith in
+    (simp length-set (omega arith), simp length-set (omega arith), release-turn _ _ (l .map) (l .i) h (c .entry-after .ensures) ∙ l .inv .2)
 
 returns : tie.Need-returns Inv-loop μ-loop
-returns c = let l = (c .before .before .loop) in sym (release-end _ _ (l .after) (l .block .0) (omega arith)) ∙ l .inv .2
+returns c = let l = (c .before .loop) in sym (release-end _ _ (l .map) (l .i) (omega arith)) ∙ l .inv .2
 
 pub release-spec : {M : Type 1} → statement M
 release-spec =
@@ -35,9 +33,10 @@ release-spec =
     (tie.spec
     Inv-loop
     μ-loop
-    loop-holds
-    (λ c. search needs) (λ c κs. tt) (λ c. search needs)  -- after[i]
-    (λ c. search needs)  -- i + 1
-    (λ c. search needs)  -- BLOCK_COUNT - block.0 falls
+    (λ c. (omega arith, refl, refl))
+    (λ c. search needs) (λ c κs. tt) (λ c. search needs)  -- map[i]
+    (λ c. search needs)  -- i
+    (λ c. search needs)  -- map.len() - i falls
     loop-again
+    (λ c. search needs)
     returns)

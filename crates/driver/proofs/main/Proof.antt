@@ -6,10 +6,10 @@ use Rattle.driver.proofs.main.Statement.{statement}
 use Rattle.driver.proofs.main.Tie as tie
 
 abbrev Inv-loop : tie.InvT-loop
-Inv-loop piece₀ line₀ content₀ pool₀ answer₀ input₀ unit₀ turns₀ piece line content pool answer input unit turns = Unit {0}
+Inv-loop piece₀ line₀ content₀ link₀ pool₀ answer₀ input₀ turn₀ turns₀ piece line content link pool answer input turn turns = Unit {0}
 
 abbrev μ-loop : tie.MeasureT-loop
-μ-loop piece₀ line₀ content₀ pool₀ answer₀ input₀ unit₀ turns₀ piece line content pool answer input unit turns = turns
+μ-loop piece₀ line₀ content₀ link₀ pool₀ answer₀ input₀ turn₀ turns₀ piece line content link pool answer input turn turns = turns
 
 sub-turns : tie.Need-sub-turns Inv-loop μ-loop
 sub-turns c = omega (arith, c .before .before .before .before .before .before .before .before .before .before .before .before .before .before .before .before .loop-test .taken)
@@ -23,9 +23,10 @@ main-spec =
     (tie.spec
     Inv-loop
     μ-loop
-    (λ c κs. search needs) (λ c κs. search needs) (λ c κs. search needs) (λ c κs. search needs)  -- large-buffer-requires, line-buffer-requires, content-buffer-requires, large-buffer-requires-2
-    (λ c κs. search needs) (λ c κs. search needs) (λ c κs. search needs) (λ c. search needs)  -- line-buffer-requires-2, begin-requires, no-unit-requires, loop-holds
-    (λ c κs. search needs) (λ c κs. search needs) (λ c κs. search needs) (λ c κs. search needs)  -- begun-requires, step-requires, command-of-requires, obey-requires
+    (λ c κs. search needs) (λ c κs. search needs) (λ c κs. search needs)  -- large-buffer-requires, line-buffer-requires, content-buffer-requires
+    (λ c κs. search needs) (λ c κs. search needs) (λ c κs. search needs)  -- large-buffer-requires-2, line-buffer-requires-2, begin-requires
+    (λ c κs. search needs) (λ c. search needs) (λ c κs. search needs) (λ c κs. search needs)  -- no-turn-requires, loop-holds, begun-requires, step-requires
+    (λ c κs. search needs) (λ c κs. search needs)  -- command-of-requires, obey-requires
     (λ c κs. search needs) (λ c κs. search needs)  -- write-requires, after-write-requires
     sub-turns
     loop-less

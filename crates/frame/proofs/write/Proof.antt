@@ -8,7 +8,7 @@ use lib.ListN.{length}
 use Rattle.frame.specs.Write.{writeOf, wrote, headerBytes}
 use Rattle.frame.specs.declared.Written.the-variants.{Bytes}
 use Rattle.frame.proofs.Laws.{header-length, header-range, frame-length}
-use Rattle.frame.proofs.Buffers.{payload-put}
+use Rattle.frame.proofs.Buffers.{bytes-put}
 use borrow.Author.Needs.{needs}
 use Rattle.frame.proofs.write.Statement.{statement}
 use Rattle.frame.proofs.write.Tie as tie
@@ -38,10 +38,24 @@ put-header-requires c κs = (sym (c .before .before .before .before .before .bef
 returns-4 : tie.Need-returns-4
 unfolding writeOf
 returns-4 c =
-    let a = (c .before .before .before .before .before .before .before .before .before .before .before .before .before .before .before .before .args) in
-    ap (wrote (Bytes ((c .before .before .before .before .before .before .before .before .before .header-size .result) + length (a .payload .now))))
-    (payload-put (headerBytes (a .header)) (a .payload .now) (a .out .now) _ _ _ (c .before .before .before .before .before .before .before .before .before .header-size .result) (header-length (a .header) ∙ sym (c .before .before .before .before .before .before .before .before .before .header-size .ensures)) (c .before .before .before .before .before .before .before .before .if3 .left) (c .before .before .before .before .before .before .put-header .ensures) (c .before .before .copy .ensures .1) refl)
-    ∙ rw (← (c .before .before .before .before .before .before .before .before .before .before .before .before .before .fault .ensures), eq-eqb _ _ (c .before .before .before .before .before .before .before .before .before .before .before .before .if1 .left), eq-eqb (a .header .size) (length (a .payload .now)) (omega arith), frame-length (a .header) (a .payload .now), ← (c .before .before .before .before .before .before .before .before .before .header-size .ensures), le-leb _ _ (c .before .before .before .before .before .before .before .before .if3 .left))
+    let copied = c .before .before in
+    let header = copied .before .before .before .before in
+    let fits = header .before .before in
+    let size = fits .before in
+    let faultless = size .before .before .before in
+    let a = faultless .before .before .before .before .args in
+    let start = size .header-size .result in
+    ap (wrote (Bytes (start + length (a .payload .now))))
+    (bytes-put (headerBytes (a .header)) (a .payload .now) (a .out .now) _ _ _ start
+    (header-length (a .header) ∙ sym (size .header-size .ensures)) (header .put-header .ensures) (copied .copy .ensures) refl)
+    ∙ rw (
+      ← (faultless .before .fault .ensures),
+      eq-eqb _ _ (faultless .if1 .left),
+      eq-eqb (a .header .size) (length (a .payload .now)) (omega arith),
+      frame-length (a .header) (a .payload .now),
+      ← (size .header-size .ensures),
+      le-leb _ _ (fits .if3 .left),
+    )
 
 pub write-spec : {M : Type 1} → statement M
 write-spec =

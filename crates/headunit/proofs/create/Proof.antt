@@ -1,34 +1,33 @@
 -- `headunit::create` meets its contract.
 -- Assumes nothing.
-use mathlib.Core.Path.{_∙_, sym}
-use borrow.Author.Tests.{not-true, not-false}
-use Rattle.headunit.specs.Unit.{creationOf}
+use mathlib.Core.Path.{sym, _∙_}
+use native.Mathlib.Omega.{arith}
+use lib.ListN.{length}
+use borrow.Author.Tests.{eq-eqb, ne-eqb, not-true, not-false}
+use Rattle.state.specs.Calls.{createIn}
+use Rattle.headunit.proofs.Parts.{created-in}
 use borrow.Author.Needs.{needs}
 use Rattle.headunit.proofs.create.Statement.{statement}
 use Rattle.headunit.proofs.create.Tie as tie
-use Rattle.headunit.proofs.create.Reads as reads
-use Rattle.headunit.proofs.create.Lts as lts
-use Rattle.blocks.proofs.free_map.Reads as free-map-reads
-use Rattle.rules.proofs.settings_fit.Reads as settings-fit-reads
-use Rattle.session.proofs.Row.free.Reads as free-reads
 
--- src/lib.rt:332:17
--- src/lib.rt:333:9
--- src/lib.rt:335:9
--- src/lib.rt:336:9
 returns : tie.Need-returns
-unfolding creationOf
-returns c = rw (sym (c .before .settings-fit .ensures) ∙ not-true (c .before .settings-fit .result) (c .if1 .taken), (c .before .before .before .free .ensures), (c .before .before .free-map .ensures))
+unfolding createIn
+returns c = rw (ne-eqb (length ((c .before .before) .args .link .now)) 2688 ((c .if1) .taken))
 
--- src/lib.rt:329:1
 returns-2 : tie.Need-returns-2
-unfolding creationOf
-returns-2 c = rw (sym (c .before .settings-fit .ensures) ∙ not-false (c .before .settings-fit .result) (c .if1 .left), (c .before .before .before .free .ensures), (c .before .before .free-map .ensures))
+unfolding createIn
+returns-2 c = rw (eq-eqb (length ((c .before .before .before .before) .args .link .now)) 2688 ((c .before .before .if1) .left), sym ((c .before .settings-fit) .ensures) ∙ not-true ((c .before .settings-fit) .result) ((c .if2) .taken))
+
+returns-3 : tie.Need-returns-3
+returns-3 c = let a = (c .before .before .before .before .before .before .before .before) .args in
+    created-in (a .link .now) _ (a .version) (a .mtu) ((c .before .before .before .before .before .before .if1) .left) (sym ((c .before .before .before .before .before .settings-fit) .ensures) ∙ not-false ((c .before .before .before .before .before .settings-fit) .result) ((c .before .before .before .before .if2) .left)) (omega arith) ((c .before .before .create) .ensures)
 
 pub create-spec : {M : Type 1} → statement M
 create-spec =
     tie.close
     (tie.spec
-    (λ c κs. search needs) (λ c κs. search needs) (λ c κs. search needs)  -- free-requires, free-map-requires, settings-fit-requires
     returns
-    returns-2)
+    (λ c κs. search needs)  -- settings-fit-requires
+    returns-2
+    (λ c κs. search needs) (λ c. search needs)  -- create-requires, same-length
+    returns-3)

@@ -1,33 +1,26 @@
 -- `headunit::not_readable` meets its contract.
 -- Assumes nothing.
+use Prim.Native.Nat.{ℕ, min}
 use mathlib.Core.Path.{_∙_, ap}
-use Prim.Native.Nat.{ℕ, _-_}
-use native.Mathlib.Omega.{arith}
 use Rattle.payload.specs.Tags.{protocolVersion}
 use Rattle.payload.specs.Reply.{nakPayload}
-use Rattle.link.specs.declared.Answer.the-variants as answer
+use native.Mathlib.Omega.{arith}
 use Rattle.session.specs.Rows.{noSessionId, noMessageId}
+use Rattle.link.specs.declared.Answer.the-variants as answer
 use Rattle.link.specs.Reply.{replyBytes, rpc}
 use Rattle.link.proofs.Replies.{reply-infos, rpc-listed}
 use Rattle.headunit.specs.Unit.{sentOf, repliedWith}
 use borrow.Author.Needs.{needs}
 use Rattle.headunit.proofs.not_readable.Statement.{statement}
 use Rattle.headunit.proofs.not_readable.Tie as tie
-use Rattle.headunit.proofs.not_readable.Reads as reads
-use Rattle.headunit.proofs.not_readable.Lts as lts
-use Rattle.headunit.proofs.replies.put_nak.Reads as put-nak-reads
 
--- src/lib.rt:405:32
--- src/lib.rt:406:9
 put-nak-requires : tie.Need-put-nak-requires
-put-nak-requires c κs = ((c .before .before .before .pre .0), (rw (c .before .least-byte .ensures) (omega (arith, (c .before .before .before .pre .1))), (rw (c .before .least-byte .ensures) (omega arith), (rpc-listed, reply-infos .1))))
+put-nak-requires c κs = ((c .before .before .before) .pre .0, (rw ((c .before .least-byte) .ensures) (omega (arith, (c .before .before .before) .pre .1)), (rw ((c .before .least-byte) .ensures) (omega arith), (rpc-listed, reply-infos .1))))
 
--- src/lib.rt:401:1
--- src/lib.rt:401:1
 returns : tie.Need-returns
-returns c =
-    let a = (c .before .before .before .before .before .before .args) in
-    λ p g. ap (repliedWith answer.Nacked (a .consumed) (a .link) p) ((c .before .before .put-nak .ensures) ∙ ap (λ (v : ℕ). sentOf (replyBytes v rpc 0x03 noSessionId noMessageId (nakPayload protocolVersion)) (a .out .now)) (c .before .before .before .before .least-byte .ensures))
+returns c = let a = (c .before .before .before .before .before .before) .args in
+    λ l p g e. ap (repliedWith answer.Nacked (a .consumed) l p)
+    ((c .before .before .put-nak) .ensures ∙ ap (λ (v : ℕ). sentOf (replyBytes v rpc 0x03 noSessionId noMessageId (nakPayload protocolVersion)) (a .out .now)) ((c .before .before .before .before .least-byte) .ensures ∙ ap (λ (n : ℕ). min n 4) e))
 
 pub not-readable-spec : {M : Type 1} → statement M
 not-readable-spec =

@@ -1,40 +1,35 @@
 -- `headunit::opened_old` meets its contract.
 -- Assumes nothing.
+use Prim.Native.Nat.{ℕ, min}
 use mathlib.Core.Path.{_∙_, ap}
-use Prim.Native.Nat.{ℕ}
 use native.Mathlib.Omega.{arith}
-use Rattle.numbers.specs.Numbers.{bytesBe}
-use Rattle.frame.specs.declared.SessionId.{SessionId}
-use Rattle.link.specs.declared.Link.{Link}
-use Rattle.link.specs.declared.Answer.the-variants as answer
-use Rattle.link.specs.State.{newId}
-use Rattle.link.specs.Reply.{replyBytes, firstMessageId, oldAck, rpc}
+use Rattle.link.specs.Call.{oldVersion}
 use Rattle.link.proofs.Replies.{rpc-listed}
-use Rattle.headunit.specs.Unit.{sentOf, repliedWith}
-use Rattle.headunit.proofs.Laws.{opened-link}
+use Rattle.state.specs.Layout.{linkOf}
+use Rattle.headunit.proofs.Laws.{old-opened}
+use Rattle.headunit.proofs.Parts.{row-left}
 use borrow.Author.Needs.{needs}
 use Rattle.headunit.proofs.opened_old.Statement.{statement}
 use Rattle.headunit.proofs.opened_old.Tie as tie
 
 put-hash-requires : tie.Need-put-hash-requires
-put-hash-requires c κs = ((c .before .before .before .before .before .pre .1 .1 .0), (rw (c .before .least-byte .ensures) (omega (arith, (c .before .before .before .before .before .pre .1 .1 .1 .0))), (rw (c .before .least-byte .ensures) (omega arith), rpc-listed)))
-
-with-row-requires : tie.Need-with-row-requires
-with-row-requires c κs = (c .before .before .before .before .before .before .before .before .pre .0)
+put-hash-requires c κs = let p = (c .before .before .before .before .before .before .before .before) .pre in
+    let least = (c .before .before .before .before .major) .ensures in
+    (p .1 .1 .1 .0, (rw ((c .before .least-byte) .ensures, least) (omega (arith, p .1 .1 .1 .1 .0)), (rw ((c .before .least-byte) .ensures) (omega arith), rpc-listed)))
 
 returns : tie.Need-returns
-returns c = let a = (c .before .before .before .before .before .before .before .before .before .args) in
-    λ p. ap (repliedWith answer.Acked (a .consumed) (c .with-row .result) p) ((c .before .before .before .put-hash .ensures) ∙ ap (λ (v : ℕ). sentOf (replyBytes v rpc 0x02 (a .id) firstMessageId (bytesBe 4 (a .grant .hash))) (a .out .now)) (c .before .before .before .before .before .least-byte .ensures)
-    ∙ ap (λ (k : SessionId). sentOf (oldAck (a .link .version .major) k (a .grant .hash)) (a .out .now)) (c .before .before .before .before .before .before .before .before .before .pre .1 .1 .1 .1))
-    ∙ ap (λ (l : Link). repliedWith answer.Acked (a .consumed) l p (sentOf (oldAck (a .link .version .major) (newId (a .link .rows)) (a .grant .hash)) (a .out .now)))
-    (opened-link (a .link) (a .i) (a .id) _ _ (a .grant) _ _ (c .before .before .before .before .before .before .before .before .before .pre .1 .0) (c .before .before .before .before .before .before .before .before .before .pre .1 .1 .1 .1) (c .before .before .before .before .before .before .before .old-version .ensures) (c .before .before .before .before .before .before .opened .ensures) (c .with-row .ensures))
+returns c = let a = (c .before .before .before .before .before .before .before .before .before .before .before .before .before .before .before) .args in
+    let s = a .link .now in
+    let pre = (c .before .before .before .before .before .before .before .before .before .before .before .before .before .before .before) .pre in
+    λ p. row-left s (pre .0) (a .i) (pre .1 .0) ((c .before .before .before .before .before .before .before .before .before .opened) .result) _ _ p _ ((c .before .before .put-row) .ensures .0)
+    (old-opened (linkOf s) (a .i) (a .consumed) (a .grant) ((c .before .before .before .before .before .before .before .before .least-byte) .result) ((c .before .before .before .before .before .before .before .before .before .before .old-version) .result) (a .id) ((c .before .before .before .before .before .before .before .before .before .opened) .result) _ (a .out .now) _ p (pre .1 .1 .0) (pre .1 .1 .1 .1 .1)
+    ((c .before .before .before .before .before .before .before .before .least-byte) .ensures ∙ ap (λ (n : ℕ). min n 4) ((c .before .before .before .before .before .before .before .before .before .before .before .major) .ensures)) ((c .before .before .before .before .before .before .before .before .before .before .old-version) .ensures ∙ ap oldVersion ((c .before .before .before .before .before .before .before .before .before .before .before .major) .ensures)) ((c .before .before .before .before .before .before .before .before .before .opened) .ensures) ((c .before .before .before .before .before .before .put-hash) .ensures))
 
 pub opened-old-spec : {M : Type 1} → statement M
 opened-old-spec =
     tie.close
     (tie.spec
-    (λ c κs. search needs) (λ c κs. search needs) (λ c κs. search needs)  -- old-version-requires, opened-requires, least-byte-requires
+    (λ c κs. search needs) (λ c κs. search needs) (λ c κs. search needs) (λ c κs. search needs)  -- major-requires, old-version-requires, opened-requires, least-byte-requires
     put-hash-requires
-    with-row-requires
-    (λ c. search needs)  -- same-length
+    (λ c κs. search needs) (λ c. search needs) (λ c. search needs)  -- put-row-requires, same-length, same-length-2
     returns)

@@ -1,54 +1,78 @@
 -- `rules::sum_rows` meets its contract.
 -- Assumes nothing.
 use Prim.Native.Nat.{ℕ, _+_, _-_, _*_, _≤_, _<_}
-use mathlib.Core.Path.{_≡_, refl, sym, subst, _∙_}
-use mathlib.Core.Bool.{_&&_}
+use mathlib.Core.Path.{_≡_, refl, ap, sym, _∙_}
+use mathlib.Core.Bool.{Bool, _&&_}
 use native.Mathlib.Omega.{arith}
-use lib.ListN.{length, take, drop, length-set, length-map}
+use lib.ListN.{length, getD, drop}
 use Rattle.session.specs.Rows.{noRow}
+use Rattle.session.specs.Decide.{heldOf, shareOf}
+use Rattle.link.specs.declared.Link.{Link}
 use Rattle.link.specs.State.{allFrom}
-use Rattle.rules.specs.Parts.{idsOf, rowSound, heldSum, shareSum}
+use Rattle.state.specs.Layout.{rowOf, linkOf}
+use Rattle.state.proofs.Rows.{row-of-link}
+use Rattle.rules.specs.Parts.{rowSound, ofSession, heldSum, shareSum}
 use Rattle.rules.proofs.Folds.{from-turn, from-end}
-use Rattle.rules.proofs.Turns.{ids-more, ids-all, held-at, held-end, share-at, share-end, FiveBelow, five-more, five-each}
+use Rattle.rules.proofs.Turns.{held-at, held-end, share-at, share-end}
 use borrow.Author.Needs.{needs}
 use Rattle.rules.proofs.sum_rows.Statement.{statement}
 use Rattle.rules.proofs.sum_rows.Tie as tie
 
+-- what was found in the rows before the i-th and what the others come to make the whole
+abbrev Passed : Link → Bool → ℕ → ℕ → ℕ → Type 0
+Passed l fit held shared i =
+    (fit && allFrom i (rowSound (l .version .major) (l .owners)) (drop i (l .rows)) ≡ allFrom 0 (rowSound (l .version .major) (l .owners)) (l .rows))
+    × ((held ≤ i * 83886080)
+    × ((held + heldSum (drop i (l .rows)) ≡ heldSum (l .rows))
+    × ((shared ≤ i * 83886080)
+    × (shared + shareSum (drop i (l .rows)) ≡ shareSum (l .rows)))))
+
 abbrev Inv-loop : tie.InvT-loop
-Inv-loop link fit₀ held₀ shared₀ ids₀ i₀ fit held shared ids i = (i ≤ 8) × ((fit && allFrom i (rowSound (link .version .major) (link .owners)) (drop i (link .rows)) ≡ allFrom 0 (rowSound (link .version .major) (link .owners)) (link .rows)) × ((held ≤ i * 83886080) × ((held + heldSum (drop i (link .rows)) ≡ heldSum (link .rows)) × ((shared ≤ i * 83886080) × ((shared + shareSum (drop i (link .rows)) ≡ shareSum (link .rows)) × (FiveBelow i (link .rows) × ((length ids ≡ 8) × (take i ids ≡ take i (idsOf (link .rows))))))))))
+Inv-loop link major owners fit₀ held₀ shared₀ i₀ fit held shared i = (i ≤ 8) × Passed (linkOf link) fit held shared i
 
 abbrev μ-loop : tie.MeasureT-loop
-μ-loop link fit₀ held₀ shared₀ ids₀ i₀ fit held shared ids i = 8 - i
+μ-loop link major owners fit₀ held₀ shared₀ i₀ fit held shared i = 8 - i
 
 loop-holds : tie.Need-loop-holds Inv-loop μ-loop
-loop-holds c = (omega arith, (refl, (omega arith, (omega arith, (omega arith, (omega arith, (λ k h. absurd (omega arith), (refl, refl))))))))
+loop-holds c = (omega arith, (refl, (omega arith, (omega arith, (omega arith, omega arith)))))
 
 loop-again : tie.Need-loop-again Inv-loop μ-loop
-loop-again c = let l = (c .before .before .before .before .before .before .before .before .before .loop) in
-    let k = c .before .before .before .before .before .before .before .before .before .before .args .t1 in
-    let size : length (k .rows) ≡ 8 = sym (length-map (k .rows) _) ∙ (c .before .before .before .before .before .before .before .before .before .before .good .0 .1 .1 .1 .1 .0 .1 .0 .1) in
+loop-again c =
+    let look = c .before .before .before in
+    let lent = look .before in
+    let turn = lent .before .before in
+    let l = turn .loop in
+    let owners = turn .before in
+    let major = owners .before in
+    let s = major .before .before .args .link .now in
+    let k = linkOf s in
+    let sound = rowSound (k .version .major) (k .owners) in
     let inside : l .i < length (k .rows) = omega arith in
+    let row = getD (k .rows) (l .i) noRow in
+    let same : rowOf (lent .row-bytes .result .now) ≡ row = ap rowOf (lent .row-bytes .ensures .0) ∙ sym (row-of-link s noRow (l .i) inside) in
+    let one = look .look .ensures in
+    let fits : look .look .result .fit ≡ sound (l .i) row = one .fits ∙ rw (same, major .major .ensures, owners .owners .ensures .0) in
+    let holds : look .look .result .held ≡ ofSession heldOf row = one .holds ∙ ap (ofSession heldOf) same in
+    let shares : look .look .result .shared ≡ ofSession shareOf row = one .shares ∙ ap (ofSession shareOf) same in
     let held = held-at (k .rows) (l .i) inside in
     let shared = share-at (k .rows) (l .i) inside in
-    let kept = l .inv .1 .1 .1 .1 .1 .1 in
-    (omega arith, (rw (c .before .before .before .row-fits .ensures .0) (sym (from-turn noRow (l .fit) (rowSound (k .version .major) (k .owners)) (k .rows) (l .i) inside) ∙ l .inv .1 .0), (omega arith, (omega (arith, (c .before .before .held-of .ensures .0)), (omega arith, (omega (arith, (c .before .share-of .ensures .0)), (five-more (l .i) (k .rows) (kept .0) (c .before .before .before .row-fits .ensures .1), (simp length-set (kept .1 .0), ids-more (l .ids) (k .rows) (l .i) (omega arith) inside (kept .1 .1)))))))))
+    let turned = sym (from-turn noRow (l .fit) sound (k .rows) (l .i) inside) ∙ l .inv .1 .0 in
+    let kept = l .inv .1 .1 .1 .1 in
+    (omega arith, (rw fits turned, (omega (arith, one .most), (omega arith, (omega (arith, one .bound, kept .0), omega (arith, kept .1))))))
 
 returns : tie.Need-returns Inv-loop μ-loop
-returns c = let l = (c .before .loop) in
-    let k = c .before .before .args .t1 in
-    let size : length (k .rows) ≡ 8 = sym (length-map (k .rows) _) ∙ (c .before .before .good .0 .1 .1 .1 .1 .0 .1 .0 .1) in
+returns c =
+    let l = c .before .loop in
+    let k = linkOf (c .before .before .before .before .before .args .link .now) in
     let done : length (k .rows) ≤ l .i = omega arith in
-    let all : l .i ≡ length (k .rows) = omega arith in
-    let kept = l .inv .1 .1 .1 .1 .1 .1 in
     record {
       fits = sym (from-end (l .fit) (rowSound (k .version .major) (k .owners)) (k .rows) (l .i) done) ∙ l .inv .1 .0;
       holds = omega (arith, held-end (k .rows) (l .i) done);
       most = omega arith;
       shares = omega (arith, share-end (k .rows) (l .i) done);
       bound = omega arith;
-      names = ids-all (l .ids) (k .rows) (l .i) (omega arith) done (kept .1 .1);
-      eight = size;
-      five = five-each (k .rows) (subst (λ (n : ℕ). FiveBelow n (k .rows)) all (kept .0));
+      eight = refl;
+      five = (refl, (refl, (refl, (refl, (refl, (refl, (refl, (refl, tt))))))));
     }
 
 pub sum-rows-spec : {M : Type 1} → statement M
@@ -57,9 +81,9 @@ sum-rows-spec =
     (tie.spec
     Inv-loop
     μ-loop
+    (λ c κs. search needs) (λ c κs. search needs)  -- major-requires, owners-requires
     loop-holds
-    (λ c. search needs) (λ c. search needs) (λ c κs. search needs) (λ c κs. search needs)  -- mul-row, element-copy-out-row, row-fits-requires, held-of-requires
-    (λ c. search needs) (λ c κs. search needs) (λ c. search needs) (λ c. search needs)  -- add-held, share-of-requires, add-shared, array-set-from-ids
+    (λ c κs. search needs) (λ c κs. search needs) (λ c. search needs) (λ c. search needs)  -- row-bytes-requires, look-requires, add-held, add-shared
     (λ c. search needs) (λ c. search needs)  -- add-i, loop-less
     loop-again
     returns)

@@ -1,5 +1,5 @@
 //! Prints a script:
-//! `generate [--frames | --payloads | --rpc | --calls | --bursts | --bench] SEED LINES`.
+//! `generate [--frames | --sends | --payloads | --rpc | --calls | --bursts | --bench] SEED LINES`.
 
 use std::io::{self, BufWriter};
 use std::process::ExitCode;
@@ -7,7 +7,7 @@ use std::process::ExitCode;
 use reference::generate::{write_script, Form};
 
 const USAGE: &str =
-    "usage: generate [--frames | --payloads | --rpc | --calls | --bursts | --bench] SEED LINES";
+    "usage: generate [--frames | --sends | --payloads | --rpc | --calls | --bursts | --bench] SEED LINES";
 
 fn main() -> ExitCode {
     let Some((form, seed, lines)) = arguments() else {
@@ -30,6 +30,7 @@ fn arguments() -> Option<(Form, u64, u64)> {
     let words: Vec<String> = std::env::args().skip(1).collect();
     let (form, numbers) = match words.as_slice() {
         [option, numbers @ ..] if option == "--frames" => (Form::Frames, numbers),
+        [option, numbers @ ..] if option == "--sends" => (Form::Sends, numbers),
         [option, numbers @ ..] if option == "--payloads" => (Form::Payloads, numbers),
         [option, numbers @ ..] if option == "--rpc" => (Form::Rpc, numbers),
         [option, numbers @ ..] if option == "--calls" => (Form::Calls, numbers),

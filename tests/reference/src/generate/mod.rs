@@ -36,6 +36,8 @@ pub enum Form {
     All,
     /// Readable `read` and `write` lines only.
     Frames,
+    /// Readable `send` lines only.
+    Sends,
     /// Readable `payload` lines only.
     Payloads,
     /// `rpc` and `rpcwrite` lines, and lines next to them that cannot be read.
@@ -92,6 +94,7 @@ impl Script {
                 line
             }
             Form::Frames => frame_line(random),
+            Form::Sends => send_lines::line(random),
             Form::Payloads => next_of(&mut self.waiting, || payload_lines::family(random)),
             Form::Bursts => next_of(&mut self.waiting, || self.bursts.link_lines(random)),
             Form::Rpc => rpc_line(random),

@@ -7,8 +7,13 @@ use Rattle.driver.proofs.calls.call.Tie as tie
 
 returns : tie.Need-returns
 returns c =
-    let a = c .before .before .before .before .before .before .before .before .args in
-    lent-call-is (a .link) (a .command) (a .input .now) (a .pool .now) (c .before .before .before .before .before .before .untouched .result) (c .before .before .before .before .before .before .untouched .ensures) (c .before .before .before .before .before .least .ensures) (c .before .call-into .ensures)
+    let a = c .before .before .before .before .before .before .before .before .before .args in
+    let least = c .before .before .before .before .before .before in
+    let made = least .before in
+    lent-call-is (a .command) (a .input .now) (a .link .now) (a .pool .now) (made .untouched .result)
+    (made .untouched .ensures)
+    (least .least .ensures)
+    (c .before .call-into .ensures)
 
 pub call-spec : {M : Type 1} → statement M
 call-spec =

@@ -7,8 +7,12 @@ use Rattle.driver.proofs.calls.call_into.Tie as tie
 
 returns : tie.Need-returns
 returns c =
-    let a = c .before .before .before .before .before .before .before .before .before .before .before .before .before .args in
-    call-is (a .link) (a .command) (a .input .now) (a .pool .now) (a .out .now) (c .before .before .before .before .before .before .before .before .grant-of .ensures) (c .before .before .before .before .before .before .before .call .ensures) (c .spell-called .ensures)
+    let a = c .before .before .before .before .before .before .before .before .before .before .before .before .before .before .before .args in
+    let called = c .before .before .before .before .before .before .before .before in
+    call-is (a .command) (a .input .now) (a .link .now) (a .pool .now) (a .out .now)
+    (called .before .grant-of .ensures)
+    (called .call .ensures)
+    (c .spell-called .ensures)
 
 pub call-into-spec : {M : Type 1} → statement M
 call-into-spec =

@@ -1,4 +1,4 @@
--- `driver::calls::new` meets its contract: the link, the pool and the line of a creation.
+-- `driver::calls::new` meets its contract: the state, the pool and the line of a creation.
 -- Assumes nothing.
 use Rattle.driver.proofs.Turns.{new-is}
 use borrow.Author.Needs.{needs}
@@ -6,7 +6,16 @@ use Rattle.driver.proofs.calls.new.Statement.{statement}
 use Rattle.driver.proofs.calls.new.Tie as tie
 
 returns : tie.Need-returns
-returns c = new-is (c .before .before .before .before .before .before .before .before .before .args .command) (c .before .before .before .before .before .before .before .before .before .args .pool .now) (c .before .before .before .before .before .before .before .before .version-of .ensures) (c .before .before .before .before .before .before .before .wide .ensures) (c .before .before .before .before .before .before .create .ensures) (c .before .before .before .fill-pool .ensures) (c .before .before .created-text .ensures) (c .lay-plain .ensures)
+returns c =
+    let a = c .before .before .before .before .before .before .before .before .before .args in
+    let made = c .before .before .before .before .before in
+    new-is (a .command) (a .link .now) (a .pool .now)
+    (made .before .before .version-of .ensures)
+    (made .before .wide .ensures)
+    (made .create .ensures)
+    (c .before .before .before .fill-pool .ensures)
+    (c .before .before .created-text .ensures)
+    (c .lay-plain .ensures)
 
 pub new-spec : {M : Type 1} → statement M
 new-spec =

@@ -1,14 +1,20 @@
 -- `driver::calls::spell_called` meets its contract: the text holds answer, checks and state, and is laid with the out buffer.
 -- Assumes nothing.
-use Rattle.link.specs.Values.{outcomeOf}
-use Rattle.headunit.specs.Unit.{leaves}
+use Rattle.state.specs.Calls.{left, toldOf}
 use Rattle.driver.proofs.Turns.{called-is}
 use borrow.Author.Needs.{needs}
 use Rattle.driver.proofs.calls.spell_called.Statement.{statement}
 use Rattle.driver.proofs.calls.spell_called.Tie as tie
 
 returns : tie.Need-returns
-returns c = called-is (outcomeOf (leaves (c .before .before .before .before .before .before .before .before .args .called) (c .before .before .before .before .before .before .before .before .args .pool .now) (c .before .before .before .before .before .before .before .before .args .out .now))) (c .before .before .before .before .answer-text .ensures) (c .before .before .before .with-checks .ensures) (c .before .before .with-sessions .ensures) (c .lay .ensures)
+returns c =
+    let a = c .before .before .before .before .before .before .before .args in
+    let checked = c .before .before .before in
+    called-is (toldOf (left (a .answer) (a .link .now) (a .pool .now) (a .out .now)))
+    (checked .before .answer-text .ensures)
+    (checked .with-checks .ensures)
+    (c .before .before .with-sessions .ensures)
+    (c .lay .ensures)
 
 pub spell-called-spec : {M : Type 1} → statement M
 spell-called-spec =

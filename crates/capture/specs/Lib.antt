@@ -1,2 +1,0 @@
-pub mod Capture
-pub mod ReadBack

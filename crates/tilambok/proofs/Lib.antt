@@ -1,0 +1,6 @@
+pub mod FrameResults
+pub mod PayloadResults
+pub mod ReadBack
+pub mod Refusals
+mod FrameFields
+mod PayloadOutcomes

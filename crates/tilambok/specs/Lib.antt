@@ -1,0 +1,6 @@
+pub mod Status
+pub mod Frames
+pub mod Payloads
+pub mod Sending
+pub mod ReadBack
+pub mod Refusals
