@@ -168,7 +168,7 @@ static inline int read_last_bytes(struct text *line, struct block *bytes) {
 
 /* ---- answers ---- */
 
-static inline void print_bytes(const uint8_t *bytes, size_t length) {
+static inline void put_bytes(const uint8_t *bytes, size_t length) {
     if (length == 0) {
         putchar('-');
     }
@@ -176,6 +176,10 @@ static inline void print_bytes(const uint8_t *bytes, size_t length) {
         putchar("0123456789abcdef"[bytes[i] / 16]);
         putchar("0123456789abcdef"[bytes[i] % 16]);
     }
+}
+
+static inline void print_bytes(const uint8_t *bytes, size_t length) {
+    put_bytes(bytes, length);
     putchar('\n');
 }
 
@@ -226,13 +230,14 @@ static inline void hold_cut(uint32_t status) {
     int8_t signed_byte = status;
     int done = status == TILAMBOK_DONE;
     hold((cut == 0) == done && (byte == 0) == done && (signed_byte == 0) == done, "a status cut to an int or to one byte is 0 only where it is 0");
-    hold(status <= 128 && (uint32_t)cut == status && byte == status, "a status is at most 128");
+    hold(status <= TILAMBOK_DELIVERED && (uint32_t)cut == status && byte == status, "a status is at most 132, and cut it is the same number");
 }
 
 /* the result of a call that was lent this number, which goes; a refusal leaves it as it was filled */
 static inline struct result told(uint32_t status, struct block number) {
     struct result result = {status, *number_in(number)};
     hold_cut(status);
+    hold(status <= TILAMBOK_SHORT, "only the link's statuses are above 128");
     hold(is_done(result) || is_short(result) || untouched(number, 0), "a refusal wrote the value");
     free_block(number);
     return result;

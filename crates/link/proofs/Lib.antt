@@ -25,6 +25,7 @@ pub mod CutFrames
 pub mod Arrival
 pub mod Bursts
 pub mod Search
+pub mod Sizes
 pub mod Demand
 pub mod Values
 pub mod Refusals

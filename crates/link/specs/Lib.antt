@@ -10,4 +10,5 @@ pub mod ReadBack
 pub mod Arrival
 pub mod Bursts
 pub mod Search
+pub mod Sizes
 pub mod Figures

@@ -70,7 +70,7 @@ small-set (a ∷ ms) (suc k) m h g = (h .0, small-set ms k m (h .1) g)
 
 -- ---- a row that is read off bytes
 
-number-below : (t : List ℕ) (at w : ℕ) → AreBytes t → at + w ≤ length t → numberAt t at w < 256 ^ w
+pub number-below : (t : List ℕ) (at w : ℕ) → AreBytes t → at + w ≤ length t → numberAt t at w < 256 ^ w
 number-below t at w b h =
     let l : length (part t at w) ≡ w = length-take-le w (drop at t) (omega (arith, length-drop at t)) in
     rw l at (value-below-le (part t at w) (bytes-take w (drop at t) (bytes-drop at t b)))

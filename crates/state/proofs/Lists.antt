@@ -24,17 +24,19 @@ use Rattle.link.specs.Refusal.{Unchanged, KeepsOn, DropsNamed}
 use Rattle.link.specs.Book.{Request, Command, call, Event, isAccepted, isAck, emptyBook, lowestNotIn, bookOf, names, shuts, untilClosed, naming, ownOf}
 use Rattle.link.specs.Claim.{State, stateAfter, eventOf, run, stateAfterAll, commandOf, Demand, created}
 use Rattle.link.specs.Arrival.{lastEvent, Arrives}
+use Rattle.link.specs.Sizes.{Small}
 use Rattle.link.specs.Pages.{Sane}
 use Rattle.link.specs.Search.{Shaped}
 use Rattle.link.proofs.Search.{guard-sane}
 use Rattle.link.proofs.Refusals.{refusal-keeps}
+use Rattle.link.proofs.Sizes.{answers-small}
 use Rattle.link.proofs.Arrival.{arrives-whole}
 use Rattle.link.proofs.Demand.{demand-three}
 use Rattle.state.specs.Layout.{linkOf}
 use Rattle.state.specs.Calls.{isState, storedIn, Left, left, leftBy, callIn, createdBytes, Made, made, createIn}
-use Rattle.state.specs.Lists.{Lent, stateOf, lentAfter, eventIn, runIn, lentAfterAll, lastIn, Typed, AllTyped, TypedVersion, StateBytes, AsRun, RunsAsLink, IsolatedIn, DemandThreeIn, UnchangedIn, asLink, KeepsIn, RefusalKeepsIn, ArrivesWholeIn}
+use Rattle.state.specs.Lists.{Lent, stateOf, lentAfter, eventIn, runIn, lentAfterAll, lastIn, Typed, AllTyped, TypedVersion, StateBytes, AsRun, RunsAsLink, IsolatedIn, DemandThreeIn, UnchangedIn, asLink, KeepsIn, RefusalKeepsIn, AnswersSmallIn, ArrivesWholeIn}
 use Rattle.state.proofs.Stored.{stored-same, created-is, created-state, created-bytes}
-use Rattle.state.proofs.Fitting.{dropped-fitting}
+use Rattle.state.proofs.Fitting.{number-below, dropped-fitting}
 use Rattle.state.proofs.Steps.{state-length, owners-length, freed, reads-back, own-fitting, call-in, event-as, state-as, still-bytes}
 
 -- ---- calls on bytes are the link's calls
@@ -219,7 +221,7 @@ refusal-keeps-in s b p input o g =
     (λ t. subst P (sym (call-in s p input o g t)) (kept-in s (record { bytes = b; state = t }) p input o w (w .answer) (refusal-keeps (linkOf s) p input o g)))
     (λ t. subst P (sym (no-state s p input o g t)) (inl ((λ e. omega arith), (λ e. omega arith), (refl, refl, refl))))
 
--- ---- a message arrives whole
+-- ---- an answer's numbers
 
 -- a state's bytes are a link as code gives it
 shaped : (s : List ℕ) → StateBytes s → Shaped (linkOf s)
@@ -229,6 +231,18 @@ shaped s k = record {
   ids = λ i h. omega (arith, own-fitting s k i h .id);
   owners = owners-length s (state-length s (k .state));
 }
+
+pub answers-small-in : AnswersSmallIn
+answers-small-in s b p input o g =
+    let P : Left → Type 0 = λ w. Small (w .answer) in
+    split (isState s)
+    (λ t.
+    let long : length s ≡ 2688 = state-length s t in
+    subst P (sym (call-in s p input o g t))
+    (answers-small (linkOf s) (shaped s (record { bytes = b; state = t })) (number-below s 2 1 b (omega arith)) (number-below s 3 1 b (omega arith)) p input o g))
+    (λ t. subst P (sym (no-state s p input o g t)) (omega arith, omega arith))
+
+-- ---- a message arrives whole
 
 -- what an accepted call says of state and pool
 accepted-state : (s p input o : List ℕ) (g : Grant) → T (isAccepted (callIn s p input o g .answer)) → isState s ≡ true

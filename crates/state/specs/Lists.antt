@@ -18,6 +18,7 @@ use Rattle.link.specs.Call.{After, after}
 use Rattle.link.specs.Refusal.{DropsNamed}
 use Rattle.link.specs.Book.{Request, Command, call, Event, opening, isAccepted, isAck, emptyBook, lowestNotIn, bookOf, ownOf, Modest}
 use Rattle.link.specs.Claim.{State, run, stateAfterAll, commandOf, seenBy, isOpen, Demand, created}
+use Rattle.link.specs.Sizes.{Small}
 use Rattle.link.specs.Arrival.{Fronts, InOrder, Arrives}
 use Rattle.state.specs.Layout.{linkOf}
 use Rattle.state.specs.Calls.{isState, Left, callIn, made, createIn}
@@ -152,6 +153,12 @@ module _ (s p input o : List ℕ) where
 -- for any bytes, also such as are no state, any pool, input, out and offer
 abbrev pub RefusalKeepsIn : Type 0
 RefusalKeepsIn = (s : List ℕ) → AreBytes s → (p input o : List ℕ) (g : Grant) → KeepsIn s p input o (callIn s p input o g) (callIn s p input o g .answer)
+
+-- ---- an answer's numbers
+
+-- they are small, for any bytes, also such as are no state
+abbrev pub AnswersSmallIn : Type 0
+AnswersSmallIn = (s : List ℕ) → AreBytes s → (p input o : List ℕ) (g : Grant) → Small (callIn s p input o g .answer)
 
 -- ---- a message arrives whole
 

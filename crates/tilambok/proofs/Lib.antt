@@ -1,5 +1,6 @@
 pub mod FrameResults
 pub mod PayloadResults
+pub mod LinkResults
 pub mod ReadBack
 pub mod Refusals
 mod FrameFields

@@ -1,10 +1,13 @@
--- What a status alone says: by cases of each function's answer, whose numbers have room (`FrameResults`, `PayloadResults`).
+-- What a status alone says: by cases of each function's answer, whose numbers have room (`FrameResults`, `PayloadResults`), and by what a refused call of the
+-- link keeps (state/proofs/Lists).
 -- Assumes nothing.
-use Prim.Native.Nat.{ℕ, _+_}
+use Prim.Native.Nat.{ℕ, _+_, _≤_}
 use mathlib.Core.Path.{_≡_, refl}
+use mathlib.Core.Logic.{_⊎_, inl, inr, ⊎-elim}
+use mathlib.Core.Bool.{_&&_}
 use mathlib.Core.List.{List, []}
 use native.Mathlib.Omega.{arith}
-use lib.Dec.{leb}
+use lib.Dec.{eqb, leb}
 use lib.ListN.{length}
 use Rattle.numbers.specs.Bytes.{laid}
 use Rattle.numbers.proofs.Choices.{unless-elim}
@@ -25,10 +28,19 @@ use Rattle.rpc.specs.declared.Reading.{Reading as Payload}
 use Rattle.rpc.specs.declared.Reading.the-variants as payload
 use Rattle.rpc.proofs.Answers.{refusals}
 use Rattle.sender.specs.Sender.{sendOf}
+use Rattle.payload.specs.declared.version.Version.{Version}
+use Rattle.link.specs.declared.Answer.{Answer}
+use Rattle.link.specs.declared.Answer.the-variants as answer
+use Rattle.link.specs.State.{settingsFit}
+use Rattle.link.specs.Sizes.{Small}
+use Rattle.state.specs.Calls.{Left as Kept, left as keptLeft, callIn, createdBytes, made, createIn}
+use Rattle.state.specs.Lists.{KeepsIn}
+use Rattle.state.proofs.Lists.{refusal-keeps-in, answers-small-in}
 use Rattle.tilambok.specs.Status.{left, IsRefusal, writtenResult, answered}
 use Rattle.tilambok.specs.Frames.{ReadingFits, leftBy, heard}
 use Rattle.tilambok.specs.Payloads.{formFrom, formNumber, formResult, fieldBytes, noFields, told, leftBy as payloadLeft, readAs, start, writtenFrom, writeAs}
-use Rattle.tilambok.specs.Refusals.{Plain, EveryStatus}
+use Rattle.tilambok.specs.Links.{report, done, doneBy}
+use Rattle.tilambok.specs.Refusals.{Plain, PlainMade, PlainLink, EveryStatus}
 use Rattle.tilambok.proofs.FrameResults.{reading-fits, heard-fits, AnswerFits, Answers, header-answers, frame-answers, send-answers}
 use Rattle.tilambok.proofs.PayloadResults.{refusal-range, AnswerSays, write-count}
 
@@ -87,6 +99,68 @@ write-rpc-plain version f json bulk out value (InForm form) = by (w .answer) (wr
     by (written.Bytes n) g = plain-done out (w .out) value (start form version)
     by (written.Refused n) g = rw (g .1) (plain-refused out value n (g .0))
 
+-- ---- the link
+
+create-plain : (s : List ℕ) (v : Version) (mtu : ℕ) → PlainMade s (createIn s v mtu)
+unfolding createIn
+create-plain s v mtu =
+    unless-elim (PlainMade s) (eqb (length s) 2688 && settingsFit v mtu) (made 10 s) (made 0 (createdBytes v mtu))
+    (λ t. record { small = omega arith; cut = refl; bytes = λ z. refl }) (λ t. record { small = omega arith; cut = refl; bytes = λ z. absurd (z refl) })
+
+module _ (s p input o : List ℕ) (service consumed value : ℕ) (s′ p′ o′ : List ℕ) where
+  abbrev PlainBy : Answer → Type 0
+  PlainBy a = PlainLink s p input o service consumed value (doneBy service consumed value (keptLeft a s′ p′ o′))
+
+  -- an accepted call: its mark is 0 or above 128
+  accepted-plain : (m v c n : ℕ) → (m ≡ 0) ⊎ ((129 ≤ m) × (m ≤ 132)) → PlainLink s p input o service consumed value (done (report m v c n) s′ p′ o′)
+  accepted-plain m v c n (inl e) = record {
+    small = omega arith;
+    cut = omega arith;
+    refusal = λ a b. absurd (omega arith);
+    short = λ z. absurd (omega arith);
+    bytes = λ z l a b. absurd (z e);
+    drops = λ d. absurd (⊎-elim (λ x. omega arith) (λ x. omega arith) d);
+  }
+  accepted-plain m v c n (inr e) = record {
+    small = e .1;
+    cut = omega (arith, e .0, e .1);
+    refusal = λ a b. absurd (omega (arith, e .0));
+    short = λ z. absurd (omega (arith, e .0));
+    bytes = λ z l a b. absurd (omega (arith, e .0));
+    drops = λ d. absurd (⊎-elim (λ x. omega (arith, e .0)) (λ x. omega (arith, e .0)) d);
+  }
+
+  call-plain : (a : Answer) → Small a → KeepsIn s p input o (keptLeft a s′ p′ o′) a → PlainBy a
+  call-plain (answer.Short n) f k = record {
+    small = omega arith;
+    cut = refl;
+    refusal = λ a b. absurd (omega arith);
+    short = λ z. refl;
+    bytes = λ z l a b. k;
+    drops = λ d. absurd (⊎-elim (λ x. omega arith) (λ x. omega arith) d);
+  }
+  call-plain (answer.Refused n) f (inl k) = record {
+    small = omega (arith, f .1);
+    cut = omega (arith, f .1);
+    refusal = λ a b. (f .1, refl);
+    short = λ z. absurd (omega (arith, f .1));
+    bytes = λ z l a b. k .2;
+    drops = λ d. absurd (⊎-elim (k .0) (k .1) d);
+  }
+  call-plain (answer.Refused n) f (inr k) = record {
+    small = omega (arith, f .1);
+    cut = omega (arith, f .1);
+    refusal = λ a b. (f .1, refl);
+    short = λ z. absurd (omega (arith, f .1));
+    bytes = λ z l a b. absurd (⊎-elim a b (k .0));
+    drops = λ d. k .1;
+  }
+  call-plain (answer.Acked c n) f k = accepted-plain 129 service c n (inr (omega arith, omega arith))
+  call-plain (answer.Nacked c n) f k = accepted-plain 130 service c n (inr (omega arith, omega arith))
+  call-plain (answer.Beat c n) f k = accepted-plain 131 service c n (inr (omega arith, omega arith))
+  call-plain (answer.Accepted c) f k = accepted-plain 0 service c 0 (inl refl)
+  call-plain (answer.Delivered c v n) f k = accepted-plain 132 (v .0) c n (inr (omega arith, omega arith))
+
 pub every-status : EveryStatus
 every-status = record {
   read-frame = λ bytes fields value. read-plain fields value (heard fields (readOf bytes)) (heard-fits fields (readOf bytes) (reading-fits bytes));
@@ -96,4 +170,9 @@ every-status = record {
   rpc-form = λ service value. form-plain value (formOf (record { 0 = service }));
   read-rpc = λ form version payload fields value. read-rpc-plain version payload fields value (formFrom form);
   write-rpc = λ form version f json bulk out value. write-rpc-plain version f json bulk out value (formFrom form);
+  link-create = create-plain;
+  link-call = λ s p input o g service consumed value b.
+      let w : Kept = callIn s p input o g in
+      call-plain s p input o service consumed value (w .state) (w .pool) (w .out) (w .answer) (answers-small-in s b p input o g)
+      (refusal-keeps-in s b p input o g);
 }

@@ -4,7 +4,7 @@ ghost use mathlib.Core.Path.{_≡_};
 ghost use Rattle.tilambok.specs.Status.{result, done, short, writtenResult, WrittenFits};
 use frame::Written;
 
-const DONE: u32 = 0;
+pub const DONE: u32 = 0;
 
 const SHORT: u32 = 128;
 
