@@ -2,31 +2,44 @@
 use Prim.Native.Nat.{ℕ}
 use mathlib.Core.Path.{_≡_, ap, sym, subst, _∙_}
 use mathlib.Core.List.{List}
+use Rattle.numbers.specs.Bytes.{AreBytes}
 use Rattle.payload.specs.declared.version.Version.{Version}
+use Rattle.link.specs.declared.Grant.{Grant}
 use Rattle.link.specs.declared.Answer.{Answer}
 use Rattle.link.specs.Sizes.{Small}
 use Rattle.link.proofs.Values.{values-tell}
-use Rattle.state.specs.Calls.{Left, left, Told, toldOf, made, createIn}
-use Rattle.tilambok.specs.Links.{Report, reportOf, done, doneBy, versionFrom, tilambokLinkCreate}
+use Rattle.state.specs.Calls.{Left, left, callIn, Told, toldOf, made, createIn}
+use Rattle.state.proofs.Lists.{answers-small-in}
+use Rattle.tilambok.specs.Links.{Report, reportOf, Done, done, doneBy, grantFrom, versionFrom, tilambokLinkCall, tilambokLinkCreate}
 
--- what a call told is what w is: an answer's values tell it
-module _ (w : Left) (a : Answer) {s p o : List ℕ} (e : toldOf (left a s p o) ≡ toldOf w) where
+-- a call with offer g that told its answer a and left these bytes. An answer's values tell it
+module _ (s p input o : List ℕ) (g : Grant) (a : Answer) {s′ p′ o′ : List ℕ} (e : toldOf (left a s′ p′ o′) ≡ toldOf (callIn s p input o g)) where
+  abbrev w : Left
+  w = callIn s p input o g
+
   answer-told : a ≡ w .answer
   answer-told = values-tell (ap (λ (t : Told). t .values) e)
 
-  pub small-told : Small (w .answer) → Small a
-  small-told f = subst Small (sym answer-told) f
+  pub small-told : AreBytes s → Small a
+  small-told b = subst Small (sym answer-told) (answers-small-in s b p input o g)
 
-  left-told : left a s p o ≡ w
+  left-told : left a s′ p′ o′ ≡ w
   left-told =
-      ap (λ (x : Answer). left x s p o) answer-told
-      ∙ ap (λ (x : List ℕ). left (w .answer) x p o) (ap (λ (t : Told). t .state) e)
-      ∙ ap (λ (x : List ℕ). left (w .answer) (w .state) x o) (ap (λ (t : Told). t .pool) e)
+      ap (λ (x : Answer). left x s′ p′ o′) answer-told
+      ∙ ap (λ (x : List ℕ). left (w .answer) x p′ o′) (ap (λ (t : Told). t .state) e)
+      ∙ ap (λ (x : List ℕ). left (w .answer) (w .state) x o′) (ap (λ (t : Told). t .pool) e)
       ∙ ap (λ (x : List ℕ). left (w .answer) (w .state) (w .pool) x) (ap (λ (t : Told). t .out) e)
 
-  -- with the report of its answer
-  pub as-done : (service consumed value : ℕ) {r : Report} → r ≡ reportOf service consumed value a → done r s p o ≡ doneBy service consumed value w
-  as-done service consumed value f = ap (λ (x : Report). done x s p o) f ∙ ap (doneBy service consumed value) left-told
+  -- with the report of its answer, and the offer that the caller's numbers say
+  module _ (guarantee cap hash service consumed value : ℕ) where
+    pub as-called : {r : Report} → r ≡ reportOf service consumed value a → g .guarantee ≡ guarantee → g .cap ≡ cap → g .hash ≡ hash
+        → done r s′ p′ o′ ≡ tilambokLinkCall s p input o (grantFrom guarantee cap hash) service consumed value
+    as-called f x y z =
+        let by : Grant → Done = λ h. tilambokLinkCall s p input o h service consumed value in
+        ap (λ (r : Report). done r s′ p′ o′) f ∙ ap (doneBy service consumed value) left-told
+        ∙ ap (λ (n : ℕ). by (grantFrom n (g .cap) (g .hash))) x
+        ∙ ap (λ (n : ℕ). by (grantFrom guarantee n (g .hash))) y
+        ∙ ap (λ (n : ℕ). by (grantFrom guarantee cap n)) z
 
 -- a creation with the version that the numbers say
 pub as-created : (s : List ℕ) (major minor patch mtu : ℕ) (v : Version) {r n : ℕ} {t : List ℕ} → r ≡ n → made n t ≡ createIn s v mtu
