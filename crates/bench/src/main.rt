@@ -1,6 +1,8 @@
 // The bench program: reads lines of hexadecimal digits from standard input, one frame a line, and answers each on standard output.
 // This file holds the buffers, the gathering of lines and the writing of answers; what a line is answered is `benchline::line`.
 // It assumes nothing of the input: bytes of any kind and any number.
+#![tactic(auto)]
+
 ghost use Rattle.std.specs.Prelude.{◌+◌, ◌≤◌, min, ◌≡◌, true, false, ◌++◌, length, take};
 ghost use Rattle.benchline.specs.Line.{new_state, left, line_of, most_text};
 ghost use Rattle.bench.specs.Pieces.{state_size, pool_size, out_size, IsText, size_of, most_kept, run_of, waiting_before, written, Flushed, after_lines, lines_in, kept_after, after_read, last_of};

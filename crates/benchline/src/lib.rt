@@ -1,6 +1,8 @@
 // The bench: one line of hexadecimal digits in, one line of text out. Document 01, "The bench program and the C side".
 // It reads and writes nothing itself. The link's state, the digits, the pool, the link's out buffer and the text buffer are lent; how many lines were
 // answered goes in and out by value. Every state, line and buffer is answered.
+#![tactic(auto)]
+
 ghost use Rattle.std.specs.Prelude.{◌≡◌, ℕ, ◌+◌, ◌*◌, ◌/◌, ◌≤◌, true, List, [], ◌∷◌, ◌++◌, length, take, nat_le};
 ghost use Rattle.numbers.specs.Bytes.{pick};
 ghost use Rattle.lines.specs.Hex.{bytes_of, hex_of};

@@ -1,6 +1,8 @@
 // The shared reassembly room: a lent pool of bytes in blocks of 256, and a map that says of each block whose it is.
 // It knows no session, no message and no frame: owners are numbers, and bytes are bytes.
 // Every public function answers every map, pool and number: it stops where blocks, pool or buffer run out, as its definition says.
+#![tactic(auto)]
+
 ghost use Rattle.std.specs.Prelude.{◌≡◌, ◌+◌, ◌*◌, ◌≤◌, ◌<◌, min, eqb, ltb, leb, ◌&&◌, ◌++◌, length, take, drop};
 ghost use denote.Ref.{at_last};
 ghost use Rattle.numbers.specs.Bytes.{pick};

@@ -1,6 +1,8 @@
 // The driver: reads lines from standard input and answers each on standard output, as docs/DRIVER.md says.
 // This file holds the buffers and the gathering of lines. It assumes nothing of the input: bytes of any kind and any number.
 // The library `words` reads a line's words; commands.rt, messages.rt and calls.rt make the calls; the library `text`, sessions.rt and output.rt spell the answers.
+#![tactic(auto)]
+
 mod calls;
 mod commands;
 mod messages;

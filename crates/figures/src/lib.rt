@@ -1,5 +1,7 @@
 // The figures of documents 01 and 02, each under one name: code takes them from here, and definitions have the same names (specs/).
 // It knows what a number is called, and no rule about it.
+#![tactic(auto)]
+
 pub mod command;
 pub mod frame_type;
 pub mod refusal;

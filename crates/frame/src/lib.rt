@@ -1,5 +1,7 @@
 // Frames: the header, the reader and the writers. Document 01, "Frame layout".
 // It knows no session and keeps no state: bytes and values in, bytes and values out.
+#![tactic(auto)]
+
 pub mod refusal;
 
 ghost use Rattle.std.specs.Prelude.{◌≡◌, Bool, ◌+◌, ◌-◌, ◌≤◌, min, length};

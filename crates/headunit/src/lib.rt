@@ -1,5 +1,7 @@
 // The head unit's side of a link: creation and the call. Document 01, "The link" to "Messages".
 // State, pool and out buffer are lent. Every state, pool, input, out buffer and offer is answered.
+#![tactic(auto)]
+
 mod replies;
 
 ghost use Rattle.std.specs.Prelude.{◌≡◌, true, List, [], ℕ, ◌+◌, ◌-◌, ◌≤◌, ◌<◌, length, take};

@@ -1,5 +1,7 @@
 // Hexadecimal and decimal text: bytes as hexadecimal digits and back, numbers as decimal digits and back; and where a line of text ends.
 // Every public function answers every input. Its contract fixes the answer and each byte of the lent buffer; a refused call leaves the buffer as it was.
+#![tactic(auto)]
+
 ghost use Rattle.std.specs.Prelude.{◌≡◌, true, map, ◌+◌, ◌*◌, ◌/◌, ◌≤◌, ◌<◌, min, length, drop};
 ghost use Rattle.lines.specs.Text.{between, every, encoded, written_of};
 ghost use Rattle.numbers.specs.Bytes.{laid};

@@ -1,5 +1,7 @@
 // The link: up to eight sessions over one pool of blocks. Document 01, "The link".
 // Here stand its state and what a call brings and answers; the definitions in specs/ say what a call does.
+#![tactic(auto)]
+
 use frame::ServiceType;
 use payload::version::Version;
 use session::Row;

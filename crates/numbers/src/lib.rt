@@ -1,5 +1,7 @@
 // Numbers as bytes, in both orders: most significant first (frame headers), least significant first (BSON). And copies of bytes.
 // Every public function but `copy` is total: a read counts only the bytes that are there, a write that does not fit changes nothing.
+#![tactic(auto)]
+
 ghost use Rattle.std.specs.Prelude.{◌≡◌, ◌+◌, ◌-◌, ◌^◌, ◌≤◌, ◌<◌, min, length};
 ghost use Rattle.std.proofs.Math.Seq.{paste};
 ghost use Rattle.numbers.specs.Bytes.{part, fits_in, put_at};
@@ -200,8 +202,8 @@ fn copy_apart(source: &[u8], target: &mut [u8])
 {
     let n = source.len();
     let mut between = [0u8; MOST_APART];
-    bytes::copy(source, &mut between);
-    bytes::copy(&between[0..n], target);
+    between[..n].copy_from_slice(source);
+    target.copy_from_slice(&between[..n]);
 }
 
 // Puts bytes over as many others.
@@ -212,6 +214,6 @@ pub fn copy(source: &[u8], target: &mut [u8])
     if source.len() <= MOST_APART {
         copy_apart(source, target);
     } else {
-        bytes::copy(source, target);
+        target.copy_from_slice(source);
     }
 }

@@ -3,6 +3,8 @@
 // gone over again and again, and how many calls are made with these; then the places, a frame at the front of each. What follows a frame is ignored
 // by the link.
 // It writes how many calls were accepted. It assumes nothing of the input: what is missing is left out.
+#![tactic(auto)]
+
 ghost use Rattle.std.specs.Prelude.{◌≡◌};
 ghost use Rattle.text.specs.Said.{said};
 ghost use Rattle.link.specs.Values.{values_of, accepted};

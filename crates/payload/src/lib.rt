@@ -1,5 +1,7 @@
 // Control payloads: the reader of their one BSON document. Document 01, "Control payloads".
 // It knows no frame and no session: a byte slice in, the known tags or a refusal's number out.
+#![tactic(auto)]
+
 pub mod append;
 pub mod refusal;
 pub mod reply;

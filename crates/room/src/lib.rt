@@ -1,5 +1,7 @@
 // The reassembly room behind C functions: the way in for the comparison with an independent room and for its benchmark.
 // It holds no rule: each function calls its namesake of `blocks` on lent bytes. A map of any length will do.
+#![tactic(auto)]
+
 ghost use Rattle.std.specs.Prelude.{◌≡◌};
 ghost use Rattle.blocks.specs.Map.{needed_for, held_by, claimed, looked_for, released};
 ghost use Rattle.blocks.specs.Pool.{appended, delivered};

@@ -1,5 +1,7 @@
 // What is inside joined messages: the RPC header, the bulk form and the security query. Document 02, request A1.
 // A payload comes as the link delivers it: bytes and the session's version. No frame, session or pool is known here, and JSON stays uninterpreted.
+#![tactic(auto)]
+
 pub mod refusal;
 
 ghost use Rattle.std.specs.Prelude.{◌≡◌, true, not, ◌++◌, ◌+◌, ◌-◌, ◌*◌, ◌≤◌, length};

@@ -1,5 +1,7 @@
 // The link's state rules, in code: refusal 10 of document 01, and what a call looks up in the table of rows.
 // It reads the state's lent bytes and changes nothing; it knows no frame and no pool but its length. One function, `survey`, goes over the rows once.
+#![tactic(auto)]
+
 ghost use Rattle.std.specs.Prelude.{◌≡◌, ◌+◌, ◌<◌, ◌≤◌, true, ◌||◌, eqb, length, drop};
 ghost use Rattle.blocks.specs.Map.{free_in};
 ghost use Rattle.session.specs.Decide.{held_of, share_of};

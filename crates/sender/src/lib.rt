@@ -1,5 +1,7 @@
 // The sender: the k-th frame of a message, written to the front of a buffer. Document 01, "Sender".
 // It keeps no state: whoever sends asks for frame 0, 1, 2 .. until the answer is that there is none (26).
+#![tactic(auto)]
+
 ghost use Rattle.std.specs.Prelude.{◌≡◌, true, false, ◌+◌, ◌-◌, ◌*◌, ◌/◌, ◌≤◌, ◌<◌, min, ◌++◌, length};
 ghost use Rattle.numbers.specs.Bytes.{part};
 ghost use Rattle.numbers.specs.Numbers.{bytes_be};

@@ -1,5 +1,7 @@
 // One session: its row by value, the row's methods, and what a frame makes of it.
 // This crate knows one row and no other, no block map and no pool: that sessions cannot disturb each other is visible in its types.
+#![tactic(auto)]
+
 pub mod refusal;
 
 ghost use Rattle.std.specs.Prelude.{◌≡◌, ◌+◌, ◌-◌, ◌^◌, ◌<◌, ◌≤◌, min, max, Bool, length};

@@ -1,4 +1,6 @@
 // The link's state as lent bytes of a fixed layout: rows are read and put as values.
+#![tactic(auto)]
+
 ghost use Rattle.std.specs.Prelude.{◌≡◌, ◌<◌, ◌≤◌, ◌+◌, ◌*◌, not, map, eqb, length};
 ghost use Rattle.numbers.specs.Bytes.{AreBytes, part, put_at, laid};
 ghost use Rattle.numbers.specs.Numbers.{bytes_le};

@@ -3,6 +3,8 @@
 // does not fit is cut, and an answered end lies within its text or buffer.
 // Bytes in hexadecimal can be many, and are not copied into a text: they stand in a buffer beside it, and the text says how many of them are
 // spelled, and where.
+#![tactic(auto)]
+
 ghost use Rattle.std.specs.Prelude.{◌+◌, ◌≤◌, ◌<◌, min, ◌≡◌, List, [], ◌∷◌, leb, length, take};
 ghost use Rattle.numbers.specs.Bytes.{pick, part as part_of};
 ghost use Rattle.lines.specs.Hex.{hex_of};

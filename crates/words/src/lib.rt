@@ -2,6 +2,8 @@
 // rule of the protocol: the limits are those of the words. Every line and every buffer is taken.
 // One space stands between two words: a space too many makes an empty word, which is neither a number nor hexadecimal.
 // A word is named by the positions of the spaces around it; the line's length stands for a space behind the last word.
+#![tactic(auto)]
+
 ghost use Rattle.std.specs.Prelude.{◌%◌, ◌≡◌, get_or};
 ghost use Rattle.lines.specs.Decimal.{number_of};
 ghost use Rattle.words.specs.Words.{same_bytes, is_silent, word_end, between as betweenOf, word_of, form_word, word_at, numbers_of, plain_form, link_form_of, rpc_form_of, form_of};
