@@ -35,14 +35,14 @@ const CAP: u16 = 64;
 const HASH: u32 = 39027;
 
 // What a line answers: so many characters at the front of the text buffer, the newline included, or that the text might not fit.
-#[derive(Drop)]
+#[derive(Clone, Copy)]
 pub enum Output {
     Text(usize),
     Full,
 }
 
 // What a line gives back.
-#[derive(Drop)]
+#[derive(Clone, Copy)]
 pub struct Turn {
     pub output: Output,
     // so many lines were answered; after 2^64 - 1 comes 0
@@ -50,7 +50,7 @@ pub struct Turn {
 }
 
 // What the digits of a line are: so many bytes for the link, or nothing that it is asked about.
-#[derive(Drop)]
+#[derive(Clone, Copy)]
 pub enum Input {
     Frame(usize),
     NotTaken,

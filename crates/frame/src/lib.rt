@@ -12,17 +12,17 @@ ghost use Rattle.frame.specs.Write.{header_bytes, wrote, write_header_of, write_
 ghost use Rattle.frame.specs.Message.{frame_number, totals_fit};
 
 // Three kinds of number that are never exchanged by mistake.
-#[derive(Drop)]
+#[derive(Clone, Copy)]
 pub struct SessionId(pub u8);
 
-#[derive(Drop)]
+#[derive(Clone, Copy)]
 pub struct ServiceType(pub u8);
 
-#[derive(Drop)]
+#[derive(Clone, Copy)]
 pub struct MessageId(pub u32);
 
 // A frame's header. A version 1 header has no message id; it reads as 0.
-#[derive(Drop)]
+#[derive(Clone, Copy)]
 pub struct Header {
     pub version: u8,
     // the encryption flag
@@ -39,7 +39,7 @@ pub struct Header {
 }
 
 // Where a frame lies in the bytes that were read: its payload part, and how many bytes it takes in all.
-#[derive(Drop)]
+#[derive(Clone, Copy)]
 pub struct Extent {
     pub start: usize,
     pub end: usize,
@@ -47,7 +47,7 @@ pub struct Extent {
 }
 
 // What the front of some bytes is: a frame, a refusal 1 to 6, or too short, with the bytes needed in all.
-#[derive(Drop)]
+#[derive(Clone, Copy)]
 pub enum Reading {
     Frame(Header, Extent),
     Refused(u8),
@@ -55,7 +55,7 @@ pub enum Reading {
 }
 
 // What a writer did: so many bytes to the front of the buffer, or a refusal and nothing.
-#[derive(Drop)]
+#[derive(Clone, Copy)]
 pub enum Written {
     Bytes(usize),
     Refused(u8),

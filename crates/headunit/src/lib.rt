@@ -50,7 +50,7 @@ const CREATED: u8 = 0;
 const LEAST_OUT: usize = 128;
 
 // What a phone that opens a session wishes: an old version, one from 5.0.0 on, or it cannot be read.
-#[derive(Drop)]
+#[derive(Clone, Copy)]
 pub enum Wished {
     Old,
     New(Version),

@@ -46,7 +46,7 @@ fn payload_count(written: payload::append::Written) -> usize
 }
 
 // What the replies of one call share.
-#[derive(Drop)]
+#[derive(Clone, Copy)]
 pub(crate) struct From {
     pub version: u8,
     pub service: ServiceType,

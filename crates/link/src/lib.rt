@@ -7,7 +7,7 @@ use payload::version::Version;
 use session::Row;
 
 // The state, as the definitions speak of it. In code it lies in bytes of the caller's, and no function makes this struct: `link_of` (state/specs/Layout) reads it off them.
-#[derive(Drop)]
+#[derive(Clone, Copy)]
 pub struct Link {
     // the module's own version
     pub version: Version,
@@ -19,7 +19,7 @@ pub struct Link {
 }
 
 // What a call offers to a session or a service that it may start. Document 01's offer: G, C and a hash.
-#[derive(Drop)]
+#[derive(Clone, Copy)]
 pub struct Grant {
     pub guarantee: u16,
     pub cap: u16,
@@ -27,7 +27,7 @@ pub struct Grant {
 }
 
 // What a call answers. The first number of an accepted call is the bytes consumed, the last the bytes at the front of out.
-#[derive(Drop)]
+#[derive(Clone, Copy)]
 pub enum Answer {
     // the bytes needed in all
     Short(usize),

@@ -5,7 +5,7 @@ ghost use Rattle.numbers.specs.Numbers.{bytes_le};
 ghost use Rattle.payload.specs.Append.{Appended};
 
 // What a writer did: so many bytes to the front of the buffer, or a refusal and nothing.
-#[derive(Drop)]
+#[derive(Clone, Copy)]
 pub enum Written {
     Bytes(usize),
     Refused(u8),

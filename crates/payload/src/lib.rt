@@ -18,7 +18,7 @@ use bytes::scan;
 use check::same;
 
 // A string's place in the caller's slice, and its length without the final 0 byte that BSON counts. Not found: both 0.
-#[derive(Drop)]
+#[derive(Clone, Copy)]
 pub struct StringTag {
     pub found: bool,
     pub at: usize,
@@ -26,21 +26,21 @@ pub struct StringTag {
 }
 
 // A hash id as its 32 bits. Not found: 0.
-#[derive(Drop)]
+#[derive(Clone, Copy)]
 pub struct HashTag {
     pub found: bool,
     pub value: u32,
 }
 
 // An mtu as its 64 bits. Not found: 0.
-#[derive(Drop)]
+#[derive(Clone, Copy)]
 pub struct MtuTag {
     pub found: bool,
     pub value: u64,
 }
 
 // An array's place in the caller's slice: where its document begins, and that document's bytes in all. Not found: both 0.
-#[derive(Drop)]
+#[derive(Clone, Copy)]
 pub struct ArrayTag {
     pub found: bool,
     pub at: usize,
@@ -48,7 +48,7 @@ pub struct ArrayTag {
 }
 
 // The known tags of a payload.
-#[derive(Drop)]
+#[derive(Clone, Copy)]
 pub struct Tags {
     // protocol_version
     pub version: StringTag,
@@ -60,14 +60,14 @@ pub struct Tags {
 }
 
 // What a payload says: its known tags, or a refusal 30 to 34.
-#[derive(Drop)]
+#[derive(Clone, Copy)]
 pub enum Payload {
     Accepted(Tags),
     Refused(u8),
 }
 
 // What a key names.
-#[derive(Drop)]
+#[derive(Clone, Copy)]
 pub enum Tag {
     Unknown,
     ProtocolVersion,
@@ -77,28 +77,28 @@ pub enum Tag {
 }
 
 // A value that holds no document: the place past it; or it runs past its document, or is none of its type.
-#[derive(Drop)]
+#[derive(Clone, Copy)]
 pub enum Skip {
     To(usize),
     Wrong,
 }
 
 // What stands before an element's value: its type, its tag and the value's place; or a refusal's number.
-#[derive(Drop)]
+#[derive(Clone, Copy)]
 pub enum Head {
     Value(u8, Tag, usize),
     Bad(u8),
 }
 
 // What an element comes to: the place past it, its tag and its value's place; or the first fault's number.
-#[derive(Drop)]
+#[derive(Clone, Copy)]
 pub enum Step {
     Next(usize, Tag, usize),
     Stop(u8),
 }
 
 // What a document comes to: the place past it with the tags so far; or the first fault's number.
-#[derive(Drop)]
+#[derive(Clone, Copy)]
 pub enum Walk {
     Past(usize, Tags),
     Fault(u8),

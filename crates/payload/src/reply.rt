@@ -13,7 +13,7 @@ use crate::version;
 use crate::version::Version;
 
 // The parameters that a NAK may name.
-#[derive(Drop)]
+#[derive(Clone, Copy)]
 pub enum Parameter {
     ProtocolVersion,
     HashId,

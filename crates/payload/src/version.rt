@@ -6,7 +6,7 @@ ghost use Rattle.payload.specs.Version.{spare_zero, part_of, before_dot, after_d
 
 use crate::append::{OUT_OF_RANGE, OUT_TOO_SMALL, Written, put_byte};
 
-#[derive(Drop)]
+#[derive(Clone, Copy)]
 pub struct Version {
     pub major: u8,
     pub minor: u8,
@@ -14,7 +14,7 @@ pub struct Version {
 }
 
 // What a text says.
-#[derive(Drop)]
+#[derive(Clone, Copy)]
 pub enum VersionText {
     Good(Version),
     Bad,

@@ -14,20 +14,20 @@ ghost use Rattle.rpc.specs.Read.{message_in, read_of};
 ghost use Rattle.rpc.specs.Write.{bare_of, whole_of, write_of};
 
 // Kinds of number that are never exchanged by mistake.
-#[derive(Drop)]
+#[derive(Clone, Copy)]
 pub struct FunctionId(pub u32);
 
-#[derive(Drop)]
+#[derive(Clone, Copy)]
 pub struct QueryId(pub u32);
 
-#[derive(Drop)]
+#[derive(Clone, Copy)]
 pub struct CorrelationId(pub u32);
 
-#[derive(Drop)]
+#[derive(Clone, Copy)]
 pub struct SequenceNumber(pub u32);
 
 // The three forms of a payload.
-#[derive(Drop)]
+#[derive(Clone, Copy)]
 pub enum Form {
     Rpc,
     Bulk,
@@ -35,14 +35,14 @@ pub enum Form {
 }
 
 // The form that a service's messages have, or none.
-#[derive(Drop)]
+#[derive(Clone, Copy)]
 pub enum Carried {
     InForm(Form),
     Nothing,
 }
 
 // A header's fields but the JSON size: those of RPC and bulk, and those of a query.
-#[derive(Drop)]
+#[derive(Clone, Copy)]
 pub struct FunctionHeader {
     // the RPC type: 0 request, 1 response, 2 notification
     pub kind: u8,
@@ -50,7 +50,7 @@ pub struct FunctionHeader {
     pub correlation: CorrelationId,
 }
 
-#[derive(Drop)]
+#[derive(Clone, Copy)]
 pub struct QueryHeader {
     // the query's type: 00, 10, 20 or FF (hex)
     pub kind: u8,
@@ -58,7 +58,7 @@ pub struct QueryHeader {
     pub sequence: SequenceNumber,
 }
 
-#[derive(Drop)]
+#[derive(Clone, Copy)]
 pub enum Header {
     OfRpc(FunctionHeader),
     OfBulk(FunctionHeader),
@@ -66,7 +66,7 @@ pub enum Header {
 }
 
 // The 12 bytes as the layout has them, whatever the form: the numbers have no kind yet.
-#[derive(Drop)]
+#[derive(Clone, Copy)]
 pub struct Fields {
     pub kind: u8,
     pub id: u32,
@@ -75,7 +75,7 @@ pub struct Fields {
 }
 
 // Where JSON and bulk data stand in the payload: the one from `json` to `bulk`, the other from `bulk` to `end`.
-#[derive(Drop)]
+#[derive(Clone, Copy)]
 pub struct Parts {
     pub json: usize,
     pub bulk: usize,
@@ -83,7 +83,7 @@ pub struct Parts {
 }
 
 // What a payload is: header, JSON size and parts; JSON alone (RPC at version 1); or a refusal.
-#[derive(Drop)]
+#[derive(Clone, Copy)]
 pub enum Reading {
     Message(Header, u32, Parts),
     Bare(Parts),

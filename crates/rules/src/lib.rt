@@ -244,7 +244,7 @@ fn share_of(row: Row) -> usize
 }
 
 // What a row comes to, or all rows.
-#[derive(Drop)]
+#[derive(Clone, Copy)]
 struct Sums {
     fit: bool,
     held: usize,
@@ -330,7 +330,7 @@ fn rest_free(map: &[u8], held: usize) -> bool
 }
 
 // What a call needs to know of all rows.
-#[derive(Drop)]
+#[derive(Clone, Copy)]
 pub struct Overview {
     // refusal 10 is not earned
     pub fit: bool,

@@ -13,7 +13,7 @@ ghost use Rattle.sender.specs.Sender.{Ready, chunk_fits, fits_one, count_of, hea
 use frame::{Header, MessageId, ServiceType, SessionId, Written, refusal};
 
 // What all frames of a message share. The chunk is the largest payload of one frame.
-#[derive(Drop)]
+#[derive(Clone, Copy)]
 pub struct Outgoing {
     pub version: u8,
     pub service: ServiceType,

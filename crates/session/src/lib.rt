@@ -12,7 +12,7 @@ ghost use Rattle.session.specs.Rows.{message_at, no_reassembly, free_row, opened
 use frame::{Header, MessageId, ServiceType, SessionId};
 
 // A message of which frames are still to come. All numbers are 0 where none is open.
-#[derive(Drop)]
+#[derive(Clone, Copy)]
 pub struct Reassembly {
     pub live: bool,
     pub id: MessageId,
@@ -25,14 +25,14 @@ pub struct Reassembly {
 }
 
 // Whether a service runs, and the hash of its start.
-#[derive(Drop)]
+#[derive(Clone, Copy)]
 pub struct Running {
     pub on: bool,
     pub hash: u32,
 }
 
 // A session, or a free row: id 0.
-#[derive(Drop)]
+#[derive(Clone, Copy)]
 pub struct Row {
     pub id: SessionId,
     // blocks: what is set aside for it, and the most that it may hold
@@ -51,7 +51,7 @@ pub struct Row {
 }
 
 // What a control frame's payload says of a hash: in version 5 its tags, below its four raw bytes.
-#[derive(Drop)]
+#[derive(Clone, Copy)]
 pub struct Said {
     pub readable: bool,
     pub found: bool,
@@ -59,7 +59,7 @@ pub struct Said {
 }
 
 // What is to be done about a frame.
-#[derive(Drop)]
+#[derive(Clone, Copy)]
 pub enum Act {
     // refused with this number, and nothing changes
     Refuse(u8),

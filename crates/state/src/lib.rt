@@ -268,7 +268,7 @@ fn write_row(row: &mut [u8], value: Row)
 }
 
 // What a row without an open message is judged by.
-#[derive(Drop)]
+#[derive(Clone, Copy)]
 pub struct Head {
     pub id: SessionId,
     pub version: u8,

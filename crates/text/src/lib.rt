@@ -16,7 +16,7 @@ use lines::Encoded;
 
 const ROOM: usize = 4096;
 
-#[derive(Drop)]
+#[derive(Clone, Copy)]
 pub struct Text {
     pub chars: [u8; ROOM],
     // so many of them are the text

@@ -52,7 +52,7 @@ const FORM: u64 = 2;
 
 // What a line says: a command, its numbers, the last of them, which is the length of the out buffer where there is one, and how many bytes it says in all.
 // Where it has two words of bytes, `first` of these are the first one's.
-#[derive(Drop)]
+#[derive(Clone, Copy)]
 pub struct Command {
     pub kind: u8,
     pub values: [u64; NUMBERS],
@@ -62,7 +62,7 @@ pub struct Command {
 }
 
 // The numbers that a command asks for: so many, and the largest that each may be.
-#[derive(Drop)]
+#[derive(Clone, Copy)]
 struct Form {
     kind: u8,
     count: usize,
@@ -70,7 +70,7 @@ struct Form {
 }
 
 // A number, and where its word ends. `good` says whether it is one, within its limit.
-#[derive(Drop)]
+#[derive(Clone, Copy)]
 struct Word {
     good: bool,
     value: u64,
@@ -78,7 +78,7 @@ struct Word {
 }
 
 // The numbers of a line, the last of them, and where that one ends.
-#[derive(Drop)]
+#[derive(Clone, Copy)]
 struct Numbers {
     good: bool,
     values: [u64; NUMBERS],
@@ -87,7 +87,7 @@ struct Numbers {
 }
 
 // How many bytes the last word says, or the last two together, if they can be read; the first of two says `first`.
-#[derive(Drop)]
+#[derive(Clone, Copy)]
 struct Last {
     good: bool,
     first: usize,
