@@ -1,7 +1,7 @@
 -- Reader and writer undo each other: what is written is read back, and what was read, written again, is the bytes consumed.
 -- Assumes nothing.
 use Prim.Native.Nat.{ℕ, suc, ◌+◌, ◌-◌, ◌*◌, ◌/◌, ◌%◌, ◌^◌, ◌≤◌, ◌<◌}
-use mathlib.Core.Path.{◌≡◌, refl, ap, ◌∙◌, sym, subst}
+use mathlib.Core.Path.{◌≡◌, refl, ap, ◌∙◌, sym}
 use mathlib.Core.Bool.{Bool, true, false}
 use mathlib.Core.List.{List, [], ◌∷◌, ◌++◌, append_assoc, append-nil}
 use native.Mathlib.Omega.{arith}
@@ -19,7 +19,7 @@ use Rattle.frame.specs.declared.Extent.{Extent}
 use Rattle.frame.specs.declared.Reading.TheVariants.{Frame}
 use Rattle.frame.specs.declared.Written.TheVariants.{Refused, Bytes as Done}
 use Rattle.frame.specs.Rules.{fault_of, header_size}
-use Rattle.frame.specs.Read.{front_of, message_of, with_message, frame_size, extent_of, read_of}
+use Rattle.frame.specs.Read.{front_of, message_of, with_message, frame_size, read_of}
 use Rattle.frame.specs.Write.{message_bytes, header_bytes, frame_bytes, Wrote, wrote, put_of, write_header_of, write_of}
 use Rattle.frame.specs.ReadBack.{as_read, payload_part, ReadsAs, FrameReadBack, HeaderReadBack, WrittenAgain}
 use Rattle.frame.proofs.Laws.{fault_none, size_most, largest_range, header_range, header_length, frame_length, write_puts}
