@@ -10,11 +10,11 @@ ghost use Rattle.blocks.specs.Map.{block_size, free, needed_for, free_map, held_
 ghost use Rattle.blocks.specs.Pool.{Sized, over, appended, appended_from, delivered, delivered_from};
 
 // A block's place in the pool: block b has the BLOCK_SIZE bytes from BLOCK_SIZE * b on.
-#[derive(Drop)]
+#[derive(Clone, Copy)]
 pub struct BlockNumber(pub usize);
 
 // Whose a block is; FREE is nobody's.
-#[derive(Drop)]
+#[derive(Clone, Copy)]
 pub struct Owner(pub u8);
 
 // The block to look from, and how many of an owner's blocks still lie before the one looked for.
@@ -32,7 +32,7 @@ struct Sought {
 }
 
 // One of an owner's blocks, or that it has not so many.
-#[derive(Drop)]
+#[derive(Clone, Copy)]
 pub enum Found {
     Block(BlockNumber),
     Missing,
