@@ -61,7 +61,7 @@ pub fn put(buffer: &mut [u8], at: usize, bytes: &[u8]) -> usize
     let start = numbers::least(at, buffer.len());
     let count = numbers::least(bytes.len(), buffer.len() - start);
     let end = start + count;
-    bytes::copy(&bytes[0..count], &mut buffer[start..end]);
+    buffer[start..end].copy_from_slice(&bytes[0..count]);
     end
 }
 
