@@ -3,7 +3,7 @@
 use Prim.Native.Nat.{ℕ, zero, suc, ◌+◌, ◌-◌, ◌*◌, ◌/◌, ◌%◌, ◌<◌, ◌≤◌}
 use mathlib.Core.Path.{◌≡◌, refl, sym}
 use mathlib.Core.List.{List, [], ◌∷◌}
-use mathlib.Core.Bool.{true, false, ◌||◌, and_false}
+use mathlib.Core.Bool.{true, false, ◌||◌, and-false}
 use native.Mathlib.Omega.{arith}
 use lib.ListN.{length, get_or}
 use lib.Dec.{leb, ltb}
@@ -20,7 +20,7 @@ module _ (low high b : ℕ) where
   within l h = rw (le-leb low b l, le-leb b high h)
 
   pub above : high < b → between low high b ≡ false
-  above h = rw (lt-leb b high h) (and_false (leb low b))
+  above h = rw (lt-leb b high h) (and-false (leb low b))
 
   pub says : between low high b ≡ true → (low ≤ b) × (b ≤ high)
   says e =

@@ -3,7 +3,7 @@
 use Prim.Native.Nat.{ℕ, zero, suc, ◌+◌, ◌<◌, ◌≤◌}
 use mathlib.Core.Path.{◌≡◌, refl, ap, ◌∙◌, sym}
 use mathlib.Core.List.{List, [], ◌∷◌, ◌++◌, append_assoc}
-use mathlib.Core.Bool.{Bool, true, false, ◌&&◌, and_true, and_assoc}
+use mathlib.Core.Bool.{Bool, true, false, ◌&&◌, and-true, and_assoc}
 use native.Mathlib.Numerals.{add-one}
 use native.Mathlib.Omega.{arith}
 use lib.ListN.{length, take, drop, get_or, set, drop_of_length-le}
@@ -23,7 +23,7 @@ module _ (test : ℕ → Bool) (text : List ℕ) (i : ℕ) (all : Bool) where
   every_turn r h e = rw (add-one i, drop-cons text i 0, e, and_assoc)
 
   pub every_end : length text ≤ i → all ≡ (all && every test (drop i text))
-  every_end h = rw drop_of_length-le (sym (and_true all))
+  every_end h = rw drop_of_length-le (sym (and-true all))
 
 -- where each character passes, the one at i does
 pub every_says : (test : ℕ → Bool) (text : List ℕ) (i : ℕ) → every test text ≡ true → i < length text → test (get_or text i 0) ≡ true

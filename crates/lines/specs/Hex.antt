@@ -1,6 +1,6 @@
 -- Hexadecimal text: two characters a byte, the upper half first. Document 01, "The bench program and the C side": "Digits in either case,
 -- written in lower". Assumes nothing.
-use Rattle.std.specs.Prelude.{ℕ, ◌+◌, ◌-◌, ◌*◌, ◌/◌, ◌%◌, ◌<◌, List, [], ◌∷◌, Bool, not, ◌&&◌, ◌||◌, length, ltb, eqb}
+use Rattle.std.specs.Prelude.{ℕ, ◌+◌, ◌-◌, ◌*◌, ◌/◌, ◌%◌, List, [], ◌∷◌, Bool, not, ◌&&◌, ◌||◌, length, ltb, eqb}
 use Rattle.lines.specs.Text.{between, every}
 use Rattle.numbers.specs.Bytes.{pick, laid}
 use Rattle.lines.specs.declared.Decoded.{Decoded}

@@ -1,6 +1,6 @@
 -- What hexadecimal and decimal text share: tests on characters, and text that goes to the front of a lent buffer.
 -- A character is its number, as '0' is 48; a buffer is the list of its bytes. Assumes nothing.
-use Rattle.std.specs.Prelude.{ℕ, List, [], ◌∷◌, ◌++◌, Bool, true, false, ◌&&◌, length, leb, ltb}
+use Rattle.std.specs.Prelude.{ℕ, List, [], ◌∷◌, Bool, true, ◌&&◌, length, leb, ltb}
 use Rattle.numbers.specs.Bytes.{pick, laid}
 use Rattle.lines.specs.declared.Encoded.{Encoded}
 use Rattle.lines.specs.declared.Encoded.TheVariants.{Chars, Full}

@@ -1,11 +1,11 @@
 -- Parts of lists whose bounds are cut at the list's length, and bytes put into a buffer as far as they fit. By the laws of take and drop. Assumes nothing.
 use Prim.Native.Nat.{ℕ, ◌+◌, ◌-◌, ◌≤◌, min}
-use mathlib.Core.Path.{◌≡◌, refl, ap, ◌∙◌, sym}
-use mathlib.Core.List.{List, [], ◌∷◌, ◌++◌, append-nil}
+use mathlib.Core.Path.{◌≡◌, ap, ◌∙◌, sym}
+use mathlib.Core.List.{List, ◌++◌, append-nil}
 use native.Mathlib.Omega.{arith}
 use lib.Dec.{leb}
 use lib.ListN.{length, take, drop, length-take, length-drop, drop_of_length-le}
-use lib.Seq.{take_all, take-length, drop-drop, take-append-add, take-append_seam, take-append-le}
+use lib.Seq.{take_all, take-length, drop-drop, take-append-add, take-append_seam}
 use borrow.Author.Tests.{leb-true, leb-false}
 use Rattle.numbers.proofs.Choices.{split}
 use borrow.Rule.Slice.PartMut.{put_mid}

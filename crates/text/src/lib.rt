@@ -10,7 +10,8 @@ ghost use Rattle.numbers.specs.Bytes.{pick, part as part_of};
 ghost use Rattle.lines.specs.Hex.{hex_of};
 ghost use Rattle.lines.specs.Decimal.{decimal_of};
 ghost use Rattle.text.specs.Said.{Started, Longer, Marked};
-ghost use Rattle.text.specs.Pieces.{fitting, put_into, check_of, count_of, digits_of};
+ghost use Rattle.text.specs.Pieces.{fitting, put_into, index_of, check_of, count_of, digits_of};
+ghost use Rattle.std.proofs.Math.Seq.{slice};
 
 use lines::Encoded;
 
@@ -52,6 +53,22 @@ pub fn part(whole: &[u8], at: usize, count: usize) -> &[u8]
     &whole[start..end]
 }
 
+// The first place from one on and before another where a byte stands; the second of the two where there is none.
+pub fn find(whole: &[u8], from: usize, to: usize, byte: u8) -> usize
+    requires { (from ≤ to) × (to ≤ length whole.now) }
+    ensures value { result ≡ from + index_of byte (slice from to whole.now) }
+    ensures bounds { (from ≤ result) × (result ≤ to) }
+{
+    let mut i = from;
+    while i < to {
+        if whole[i] == byte {
+            return i;
+        }
+        i += 1;
+    }
+    to
+}
+
 // Bytes into a buffer from a place on, as far as they fit. Answers where they end.
 pub fn put(buffer: &mut [u8], at: usize, bytes: &[u8]) -> usize
     ensures value { result ≡ min at (length buffer.old) + length (fitting buffer.old at bytes.now) }
@@ -61,7 +78,7 @@ pub fn put(buffer: &mut [u8], at: usize, bytes: &[u8]) -> usize
     let start = numbers::least(at, buffer.len());
     let count = numbers::least(bytes.len(), buffer.len() - start);
     let end = start + count;
-    bytes::copy(&bytes[0..count], &mut buffer[start..end]);
+    buffer[start..end].copy_from_slice(&bytes[0..count]);
     end
 }
 
