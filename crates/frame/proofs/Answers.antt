@@ -152,12 +152,12 @@ front_behind s t h =
 
 message_behind : (s t : List ℕ) (v : ℕ) → header_size v ≤ length s → message_of (s ++ t) v ≡ message_of s v
 unfolding message_of header_size
-message_behind s t v h = byVersion (eqb v 1) h
+message_behind s t v h = by_version (eqb v 1) h
   where
-    byVersion : (b : Bool) → pick b 8 12 ≤ length s
+    by_version : (b : Bool) → pick b 8 12 ≤ length s
         → pick {A = MessageId} b (record { 0 = 0 }) (record { 0 = value_be (part (s ++ t) 8 4) }) ≡ pick b (record { 0 = 0 }) (record { 0 = value_be (part s 8 4) })
-    byVersion true g = refl
-    byVersion false g = rw (part_front s t 8 4 (omega arith))
+    by_version true g = refl
+    by_version false g = rw (part_front s t 8 4 (omega arith))
 
 pub frame_behind : (s t : List ℕ) (h : Header) (e : Extent) → read_of s ≡ Frame h e → read_of (s ++ t) ≡ Frame h e
 frame_behind s t h e p =

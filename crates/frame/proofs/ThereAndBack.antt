@@ -31,11 +31,11 @@ bits_back v k true h = (omega arith, le-leb 8 ((v * 16 + 8 + k) % 16) (omega ari
 bits_back v k false h = (omega arith, lt-leb 8 ((v * 16 + 0 + k) % 16) (omega arith), omega arith)
 
 bits_there : (n : ℕ) → n / 16 * 16 + pick (leb 8 (n % 16)) 8 0 + n % 8 ≡ n
-bits_there n = byFlag (leb 8 (n % 16)) refl
+bits_there n = by_flag (leb 8 (n % 16)) refl
   where
-    byFlag : (b : Bool) → leb 8 (n % 16) ≡ b → n / 16 * 16 + pick b 8 0 + n % 8 ≡ n
-    byFlag true e = omega (arith, leb-true 8 (n % 16) e)
-    byFlag false e = omega (arith, leb-false 8 (n % 16) e)
+    by_flag : (b : Bool) → leb 8 (n % 16) ≡ b → n / 16 * 16 + pick b 8 0 + n % 8 ≡ n
+    by_flag true e = omega (arith, leb-true 8 (n % 16) e)
+    by_flag false e = omega (arith, leb-false 8 (n % 16) e)
 
 -- what is written is read back
 module _ (h : Header) (p t : List ℕ) (sound : fault_of h ≡ 0) where
@@ -55,12 +55,12 @@ module _ (h : Header) (p t : List ℕ) (sound : fault_of h ≡ 0) where
 
   message_back : h.message.0 < 2 ^ 32 → message_of (frame_bytes h p ++ t) h.version ≡ (as_read h).message
   unfolding message_of message_bytes
-  message_back small = byVersion (eqb h.version 1) refl
+  message_back small = by_version (eqb h.version 1) refl
     where
-      byVersion : (one : Bool) → eqb h.version 1 ≡ one
+      by_version : (one : Bool) → eqb h.version 1 ≡ one
           → pick {A = MessageId} one (record { 0 = 0 }) (record { 0 = value_be (part (frame_bytes h p ++ t) 8 4) }) ≡ pick one (record { 0 = 0 }) h.message
-      byVersion true e = refl
-      byVersion false e =
+      by_version true e = refl
+      by_version false e =
           let m : message_bytes h ≡ bytes_be 4 h.message.0 = rw e in
           let a : bytes_be 4 h.size ++ message_bytes h ++ p ++ t ≡ bytes_be 4 h.size ++ (bytes_be 4 h.message.0 ++ (p ++ t)) = rw m (simp append_assoc) in
           let d : drop 4 (bytes_be 4 h.size ++ message_bytes h ++ p ++ t) ≡ bytes_be 4 h.message.0 ++ (p ++ t)
@@ -132,11 +132,11 @@ module _ (a b c d : ℕ) (r : List ℕ) (bytes : AreBytes r) where
 
   again : 4 ≤ length r → header_size (a / 16) ≤ 4 + length r → again-holds
   unfolding header_size
-  again l h = byVersion (eqb (a / 16) 1) refl h
+  again l h = by_version (eqb (a / 16) 1) refl h
     where
-      byVersion : (k : Bool) → eqb (a / 16) 1 ≡ k → pick k 8 12 ≤ 4 + length r → again-holds
-      byVersion true e g = again_one l e
-      byVersion false e g = again_more (omega arith) e
+      by_version : (k : Bool) → eqb (a / 16) 1 ≡ k → pick k 8 12 ≤ 4 + length r → again-holds
+      by_version true e g = again_one l e
+      by_version false e g = again_more (omega arith) e
 
 read_again : (s : List ℕ) → AreBytes s → 8 ≤ length s → header_size (front_of s).version ≤ length s
     → frame_bytes (header_of s) (part s (header_size (front_of s).version) (front_of s).size) ≡ take (frame_size (front_of s)) s

@@ -60,7 +60,7 @@ use Rattle.link.specs.declared.Link.{Link}
 use Rattle.link.specs.declared.Grant.{Grant}
 use Rattle.link.specs.declared.Answer.TheVariants as answer
 use Rattle.link.specs.State.{index_of, new_id, version_allowed, row_fits, rules_hold, settings_fit, grant_fits, guard_of, with_row}
-use Rattle.link.specs.Call.{After, after, Wish, old, new, bad, wish_of_text, wish_of_payload, wish_of, opens, old_version, opened, openingBy, said_of, decision_of, applied, frame_of, call_of}
+use Rattle.link.specs.Call.{After, after, Wish, old, new, bad, wish_of_text, wish_of_payload, wish_of, opens, old_version, opened, opening_by, said_of, decision_of, applied, frame_of, call_of}
 use Rattle.link.proofs.Guards.{guard_version}
 use Rattle.link.proofs.Table.{index_row}
 use Rattle.link.specs.Reply.{reply_header, reply_bytes, rpc, first_message_id, old_ack, new_ack, granted_payload}
@@ -267,7 +267,7 @@ frame_small l p s o h e g room = rw (lt-leb 128 (length o) room)
 
 -- a frame with room in out: an opening, one of the session in row i, or one of no session
 module _ (l : Link) (p s o : List ℕ) (h : Header) (e : Extent) (g : Grant) (payload : List ℕ) (room : 128 ≤ length o) (is : payload ≡ part s e.start (e.end - e.start)) where
-  pub frame_opens : {x : After} → opens h ≡ true → x ≡ openingBy l p o e.consumed g (wish_of l.version.major payload) → x ≡ frame_of l p s o h e g
+  pub frame_opens : {x : After} → opens h ≡ true → x ≡ opening_by l p o e.consumed g (wish_of l.version.major payload) → x ≡ frame_of l p s o h e g
   unfolding frame_of
   frame_opens opening q = q ∙ rw (le-leb 128 (length o) room, opening, is)
 

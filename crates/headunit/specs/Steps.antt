@@ -107,8 +107,8 @@ told a p o = record { answer = a; pool = p; out = o }
 -- what is told of a decision: os the block map, payload the frame's, p and o pool and out
 module _ (k : Case) (os payload p o : List ℕ) where
   -- the pool with the payload behind the bytes that are there
-  abbrev fedPool : List ℕ
-  fedPool = appended k.mine (k.message.total - k.message.missing) payload os p
+  abbrev fed_pool : List ℕ
+  fed_pool = appended k.mine (k.message.total - k.message.missing) payload os p
 
   abbrev reply : ℕ → MessageId → List ℕ → List ℕ
   reply info message bytes = reply_bytes k.from.version k.from.service info k.from.session message bytes
@@ -127,9 +127,9 @@ module _ (k : Case) (os payload p o : List ℕ) where
   told_of Close = replied answer.Acked (reply end_ack k.row.next [])
   told_of (NoEnd named) = replied answer.Nacked (reply end_nak no_message_id (pick named (nak_payload hash_id) []))
   told_of (Claim total count) = told (answer.Accepted k.consumed) p o
-  told_of Append = told (answer.Accepted k.consumed) fedPool o
+  told_of Append = told (answer.Accepted k.consumed) fed_pool o
   told_of Deliver =
-      told (answer.Delivered k.consumed k.from.service k.message.total) fedPool (laid (take k.message.total (block_bytes k.mine os fedPool)) o)
+      told (answer.Delivered k.consumed k.from.service k.message.total) fed_pool (laid (take k.message.total (block_bytes k.mine os fed_pool)) o)
   told_of Single = told (answer.Delivered k.consumed k.from.service (length payload)) p (laid payload o)
 
 -- what a reply needs: room, and a version and a service that a frame may have

@@ -19,7 +19,7 @@ ghost use Rattle.link.specs.declared.Grant.{Grant as Offer};
 ghost use Rattle.link.specs.declared.Link.{Link as State};
 ghost use Rattle.link.specs.State.{index_of, owner_of, shares_in, guard_of, new_id};
 ghost use Rattle.link.specs.Reply.{old_ack, new_ack};
-ghost use Rattle.link.specs.Call.{after, old, new, wish_of_text, wish_of, opens, admits, old_version, notOpened, opened, openingBy, said_of, decision_of, applied, frame_of};
+ghost use Rattle.link.specs.Call.{after, old, new, wish_of_text, wish_of, opens, admits, old_version, not_opened, opened, opening_by, said_of, decision_of, applied, frame_of};
 ghost use Rattle.state.specs.Layout.{row_in, link_of};
 ghost use Rattle.state.specs.Calls.{stored_in, with_owners_bytes, left, left_by, call_in, told_of as outcome_of, made, create_in};
 ghost use Rattle.rules.specs.Parts.{Surveyed};
@@ -398,7 +398,7 @@ fn wish_of(major: u8, payload: &[u8]) -> Wished
 // A version that cannot be read is refused by its name; major is the module's own.
 fn not_readable(major: u8, consumed: usize, out: &mut [u8]) -> Answer
     requires { (128 ≤ length out.old) × (1 ≤ major) }
-    ensures { (l : State) (p : List ℕ) (g : Offer) → major ≡ l.version.major → after result l p out.new ≡ notOpened l p out.old consumed g (nak_payload protocol_version) }
+    ensures { (l : State) (p : List ℕ) (g : Offer) → major ≡ l.version.major → after result l p out.new ≡ not_opened l p out.old consumed g (nak_payload protocol_version) }
 {
     let from = From {
         version: numbers::least_byte(major, 4),
@@ -411,7 +411,7 @@ fn not_readable(major: u8, consumed: usize, out: &mut [u8]) -> Answer
 
 fn not_admitted(major: u8, consumed: usize, out: &mut [u8]) -> Answer
     requires { (128 ≤ length out.old) × (1 ≤ major) }
-    ensures { (l : State) (p : List ℕ) (g : Offer) → major ≡ l.version.major → after result l p out.new ≡ notOpened l p out.old consumed g [] }
+    ensures { (l : State) (p : List ℕ) (g : Offer) → major ≡ l.version.major → after result l p out.new ≡ not_opened l p out.old consumed g [] }
 {
     let from = From {
         version: numbers::least_byte(major, 4),
@@ -489,7 +489,7 @@ fn open_old(
     out: &mut [u8],
 ) -> Answer
     requires { Ready link.old × ((128 ≤ length out.old) × ((1 ≤ (link_of link.old).version.major) × Surveyed (link_of link.old) seen)) }
-    ensures { (p : List ℕ) → left result link.new p out.new ≡ left_by link.old (openingBy (link_of link.old) p out.old consumed grant old) }
+    ensures { (p : List ℕ) → left result link.new p out.new ≡ left_by link.old (opening_by (link_of link.old) p out.old consumed grant old) }
 {
     if !is_admitted(seen, grant) {
         return not_admitted(state::major(link), consumed, out);
@@ -509,7 +509,7 @@ fn open_new(
     out: &mut [u8],
 ) -> Answer
     requires { Ready link.old × ((128 ≤ length out.old) × ((1 ≤ (link_of link.old).version.major) × ((1 ≤ wish.major) × Surveyed (link_of link.old) seen))) }
-    ensures { (p : List ℕ) → left result link.new p out.new ≡ left_by link.old (openingBy (link_of link.old) p out.old consumed grant (new wish)) }
+    ensures { (p : List ℕ) → left result link.new p out.new ≡ left_by link.old (opening_by (link_of link.old) p out.old consumed grant (new wish)) }
 {
     if !is_admitted(seen, grant) {
         return not_admitted(state::major(link), consumed, out);
@@ -529,7 +529,7 @@ fn open(
     out: &mut [u8],
 ) -> Answer
     requires { Ready link.old × ((128 ≤ length out.old) × ((1 ≤ (link_of link.old).version.major) × Surveyed (link_of link.old) seen)) }
-    ensures { (p : List ℕ) → left result link.new p out.new ≡ left_by link.old (openingBy (link_of link.old) p out.old consumed grant (wish_of (link_of link.old).version.major payload.now)) }
+    ensures { (p : List ℕ) → left result link.new p out.new ≡ left_by link.old (opening_by (link_of link.old) p out.old consumed grant (wish_of (link_of link.old).version.major payload.now)) }
 {
     let major = state::major(link);
     match wish_of(major, payload) {

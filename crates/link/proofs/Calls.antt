@@ -29,7 +29,7 @@ use Rattle.link.specs.declared.Grant.{Grant}
 use Rattle.link.specs.declared.Answer.{Answer}
 use Rattle.link.specs.declared.Answer.TheVariants as answer
 use Rattle.link.specs.State.{index_of, shares_in, grant_fits, guard_of, with_row, lowest_free}
-use Rattle.link.specs.Call.{After, after, Wish, old, new, bad, wish_of, opens, admits, old_version, openingBy, decision_of, applied, frame_of, reading_of, call_of}
+use Rattle.link.specs.Call.{After, after, Wish, old, new, bad, wish_of, opens, admits, old_version, opening_by, decision_of, applied, frame_of, reading_of, call_of}
 use Rattle.link.specs.Book.{Request, call, Seen, opening, within, nothing, ask_of, seen_in, seen_of, names}
 use Rattle.link.specs.Claim.{State, stepped, is_open}
 use Rattle.link.specs.Pages.{Sane}
@@ -81,7 +81,7 @@ module _ (l : Link) (p s o : List ℕ) (g : Grant) where
         → not (eqb h.session.0 0) && ltb (index h) (length l.rows) ≡ true
         → Called (within h.session.0 (ask_of h (payload e))) (applied l (index h) p o h e.consumed (payload e) g (decision_of l (index h) h (payload e) (length o)))
 
-  opening_called : (consumed : ℕ) (bytes : List ℕ) → guard_of l (length p) g ≡ true → (w : Wish) → wish_of l.version.major bytes ≡ w → Called opening (openingBy l p o consumed g w)
+  opening_called : (consumed : ℕ) (bytes : List ℕ) → guard_of l (length p) g ≡ true → (w : Wish) → wish_of l.version.major bytes ≡ w → Called opening (opening_by l p o consumed g w)
   opening_called consumed bytes t bad e = nacked
   opening_called consumed bytes t old e = unless_elim (Called opening) (admits l.rows g) _ _ (λ _. nacked) (λ a. acked t a (inl refl))
   opening_called consumed bytes t (new v) e = unless_elim (Called opening) (admits l.rows g) _ _ (λ _. nacked) (λ a. acked t a (inr (refl, new_five l.version.major bytes v e)))

@@ -130,15 +130,15 @@ module _ (s : State) (i : ℕ) (k : Sane s) (opened : is_open s i ≡ true) wher
       let rs : List Row = s.link.rows in
       rw (index_set_same i rs n x e, length-set rs n x, ne_eqb i 0 facts.some_id, lt-ltb n (length rs) facts.below, get_or-set_same rs n x no_row facts.below)
 
-  abbrev pageWith : State → Sizes → Option Page
-  pageWith t z = some (record { guarantee = z.guarantee; cap = z.cap; notes = notes_from t n 0 z.messages })
+  abbrev page_with : State → Sizes → Option Page
+  page_with t z = some (record { guarantee = z.guarantee; cap = z.cap; notes = notes_from t n 0 z.messages })
 
-  stored_page : (x : Row) (ms : List Reassembly) (owners pool : List ℕ) → sizes x ≡ sizes_with r ms → pages (stored x owners pool) i ≡ pageWith (stored x owners pool) (sizes_with r ms)
+  stored_page : (x : Row) (ms : List Reassembly) (owners pool : List ℕ) → sizes x ≡ sizes_with r ms → pages (stored x owners pool) i ≡ page_with (stored x owners pool) (sizes_with r ms)
   unfolding pages
   stored_page x ms owners pool e =
       let t : State = stored x owners pool in
       let id : x.id.0 ≡ r.id.0 = ap (λ (z : Sizes). z.id) e in
-      ap (λ (y : ℕ). page_if t y (row_of t i)) (index_set_same i s.link.rows n x id) ∙ ap (λ (o : Option Row). page_if t n o) (stored_row x owners pool id) ∙ ap (pageWith t) e
+      ap (λ (y : ℕ). page_if t y (row_of t i)) (index_set_same i s.link.rows n x id) ∙ ap (λ (o : Option Row). page_if t n o) (stored_row x owners pool id) ∙ ap (page_with t) e
 
   -- no message set, no block touched
   same_page : (x : Row) → sizes x ≡ sizes r → pages (stored x s.link.owners s.pool) i ≡ some page

@@ -43,9 +43,9 @@ use Rattle.link.specs.declared.Link.{Link}
 use Rattle.link.specs.declared.Grant.{Grant}
 use Rattle.link.specs.State.{index_of, guard_of}
 use Rattle.link.specs.Reply.{reply_bytes, granted_payload, rpc}
-use Rattle.link.specs.Call.{After, after, Wish, old, new, bad, wish_of, opens, admits, notOpened, openingBy, decision_of, applied, frame_of, reading_of, call_of}
+use Rattle.link.specs.Call.{After, after, Wish, old, new, bad, wish_of, opens, admits, not_opened, opening_by, decision_of, applied, frame_of, reading_of, call_of}
 use Rattle.link.specs.Values.{values_of}
-use Rattle.link.specs.ReadBack.{Carried, empty, hash, granted, settled, rejecting, Says, Meant, nak_meant, meant_by, meantIn, meant_of, SaidBack, SaidBackIf, IfReply, Typed, ReplyReadBack, ReadBack}
+use Rattle.link.specs.ReadBack.{Carried, empty, hash, granted, settled, rejecting, Says, Meant, nak_meant, meant_by, meant_in, meant_of, SaidBack, SaidBackIf, IfReply, Typed, ReplyReadBack, ReadBack}
 use Rattle.link.proofs.Table.{index_row}
 use Rattle.link.proofs.Decisions.{both_by}
 use Rattle.link.proofs.Calls.{two_unless}
@@ -79,10 +79,10 @@ module _ (l : Link) (p s o : List ℕ) (g : Grant) (t : Typed l g) where
     in_range : (1 ≤ l.version.major) × ((l.version.major ≤ 5) × (l.mtu ≤ 131084))
     in_range = guard_settings l (length p) g guard
 
-    nak-said : (c : ℕ) (payload : List ℕ) (k : Carried) → length payload ≤ 1488 → Says k payload → Holds (notOpened l p o c g payload) (some (nak_meant l k))
+    nak-said : (c : ℕ) (payload : List ℕ) (k : Carried) → length payload ≤ 1488 → Says k payload → Holds (not_opened l p o c g payload) (some (nak_meant l k))
     nak-said c payload k short says = said_back (nak_meant l k) payload o (omega (arith, in_range.0)) (omega arith) rpc_listed reply_infos.1 short (omega arith) says
 
-    opening-said : (c : ℕ) (payload : List ℕ) (w : Wish) → wish_of l.version.major payload ≡ w → Holds (openingBy l p o c g w) (some (meant_by l g w))
+    opening-said : (c : ℕ) (payload : List ℕ) (w : Wish) → wish_of l.version.major payload ≡ w → Holds (opening_by l p o c g w) (some (meant_by l g w))
     opening-said c payload bad e = nak-said c (nak_payload protocol_version) (rejecting protocol_version) (omega (arith, length_nak protocol_version)) (nak_says parameter.ProtocolVersion)
     opening-said c payload old e =
         two_unless (λ (w : After) (m : Meant). Holds w (some m)) (admits l.rows g) _ _ _ _ (λ _. nak-said c [] empty (omega arith) refl)
@@ -118,7 +118,7 @@ module _ (l : Link) (p s o : List ℕ) (g : Grant) (t : Typed l g) where
       named-said true = (omega (arith, length_nak hash_id), nak_says parameter.HashId)
       named-said false = (omega arith, refl)
 
-      act-said : (act : Act) → Holds (applied l i p o h c payload g act) (meantIn l r h g act)
+      act-said : (act : Act) → Holds (applied l i p o h c payload g act) (meant_in l r h g act)
       act-said (Refuse n) = tt
       act-said (Drop n) = tt
       act-said Accept = tt
@@ -143,7 +143,7 @@ module _ (l : Link) (p s o : List ℕ) (g : Grant) (t : Typed l g) where
         let i : ℕ = index_of h.session.0 l.rows in
         let wish : Wish = wish_of l.version.major (payload_part s e) in
         let act : Act = decision_of l i h (payload_part s e) (length o) in
-        let in_row : Option Meant = meantIn l (get_or l.rows i no_row) h g act in
+        let in_row : Option Meant = meant_in l (get_or l.rows i no_row) h g act in
         unless_elim (λ (w : After). Holds w (pick (opens h) (some (meant_by l g wish)) in_row)) (leb 128 (length o)) _ _ (λ _. tt) λ _.
         both_by Holds (opens h) _ _ (some (meant_by l g wish)) in_row (λ _. opening-said e.consumed (payload_part s e) wish refl) λ _.
         unless_elim (λ (w : After). Holds w in_row) (not (eqb h.session.0 0) && ltb i (length l.rows)) _ _ (λ _. tt) λ a.

@@ -118,12 +118,12 @@ module _ (s₁ s₂ : State) (q : Request) (k₁ : Sane s₁) (k₂ : Sane s₂)
   -- a call that names an open session is no opening
   no_opening : (i : ℕ) → T (names i (call q)) → (i ≡ 0 → ⊥) → seen_of q.input ≡ opening → ⊥
   unfolding seen_of
-  no_opening i t z = byReading (read_of q.input) refl
+  no_opening i t z = by_reading (read_of q.input) refl
     where
-      byReading : (x : Reading) → read_of q.input ≡ x → seen_in q.input x ≡ opening → ⊥
-      byReading (reading.Short n) f e = let w : ◌≡◌ {A = ℕ} 0 1 = cc in omega arith
-      byReading (reading.Refused n) f e = let w : ◌≡◌ {A = ℕ} 0 1 = cc in omega arith
-      byReading (reading.Frame h x) f e =
+      by_reading : (x : Reading) → read_of q.input ≡ x → seen_in q.input x ≡ opening → ⊥
+      by_reading (reading.Short n) f e = let w : ◌≡◌ {A = ℕ} 0 1 = cc in omega arith
+      by_reading (reading.Refused n) f e = let w : ◌≡◌ {A = ℕ} 0 1 = cc in omega arith
+      by_reading (reading.Frame h x) f e =
           either (λ (y : Seen). y ≡ opening → ⊥) (opens h) _ _ (λ o _. z (named q i h x f t ∙ opens_zero h o)) (λ _ y. let w : ◌≡◌ {A = ℕ} 0 1 = cc in omega arith) e
 
   -- no closing, in the words of the book

@@ -43,7 +43,7 @@ use Rattle.link.specs.declared.Link.{Link}
 use Rattle.link.specs.declared.Grant.{Grant}
 use Rattle.link.specs.State.{index_of, shares_in, guard_of, new_id}
 use Rattle.link.specs.Reply.{reply_header, reply_bytes, start_ack, start_nak, end_ack, end_nak, beat_ack, rpc, first_message_id, old_ack, opening_nak, granted_payload}
-use Rattle.link.specs.Call.{After, Wish, old, new, bad, wish_of, opens, admits, openingBy, said_of, decision_of, applied, frame_of, reading_of, call_of}
+use Rattle.link.specs.Call.{After, Wish, old, new, bad, wish_of, opens, admits, opening_by, said_of, decision_of, applied, frame_of, reading_of, call_of}
 use Rattle.link.specs.Book.{Ask, ask_of}
 use Rattle.link.specs.Claim.{State, is_open}
 use Rattle.link.specs.Pages.{Sane}
@@ -146,7 +146,7 @@ module _ (l : Link) (shape : Shaped l) (minor : l.version.minor < 256) (patch : 
   old_small =
       reply_small (min l.version.major 4) rpc start_ack (new_id l.rows) first_message_id (bytes_be 4 g.hash) (omega (arith, length_be 4 g.hash))
 
-  opening_small : (c : ℕ) → c ≤ 131084 → (payload : List ℕ) (w : Wish) → wish_of l.version.major payload ≡ w → SmallAfter (openingBy l p o c g w)
+  opening_small : (c : ℕ) → c ≤ 131084 → (payload : List ℕ) (w : Wish) → wish_of l.version.major payload ≡ w → SmallAfter (opening_by l p o c g w)
   opening_small c b payload bad e = (b, nak_small (nak_payload protocol_version) (omega (arith, length_nak protocol_version)))
   opening_small c b payload old e =
       unless_elim SmallAfter (admits l.rows g) _ _ (λ _. (b, nak_small [] (omega arith)))

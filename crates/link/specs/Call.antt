@@ -84,8 +84,8 @@ old_version major = pick (eqb major 1) 1 0
 
 module _ (l : Link) (p o : List ℕ) (consumed : ℕ) (g : Grant) where
   -- a NAK changes nothing
-  abbrev pub notOpened : List ℕ → After
-  notOpened payload = let bytes = opening_nak l.version.major payload in after (answer.Nacked consumed (length bytes)) l p (laid bytes o)
+  abbrev pub not_opened : List ℕ → After
+  not_opened payload = let bytes = opening_nak l.version.major payload in after (answer.Nacked consumed (length bytes)) l p (laid bytes o)
 
   -- the session's row in the first free place, and the ACK
   abbrev pub opened : ℕ → List ℕ → After
@@ -96,10 +96,10 @@ module _ (l : Link) (p o : List ℕ) (consumed : ℕ) (g : Grant) where
 
   -- bad: "a NAK with rejected_params ["protocol_version"]"; "then, with any M, no free row, or a state rule broken by G, gets a NAK of data size 0"; old: "reply
   -- ACK with header version min(M, 4)"; new: "Otherwise settle on the lesser of both versions"
-  abbrev pub openingBy : Wish → After
-  openingBy bad = notOpened (nak_payload protocol_version)
-  openingBy old = unless (admits l.rows g) (notOpened []) (opened (old_version l.version.major) (old_ack l.version.major (new_id l.rows) g.hash))
-  openingBy (new v) = unless (admits l.rows g) (notOpened []) (opened 5 (new_ack (new_id l.rows) g.hash l.mtu (lesser_of l.version v)))
+  abbrev pub opening_by : Wish → After
+  opening_by bad = not_opened (nak_payload protocol_version)
+  opening_by old = unless (admits l.rows g) (not_opened []) (opened (old_version l.version.major) (old_ack l.version.major (new_id l.rows) g.hash))
+  opening_by (new v) = unless (admits l.rows g) (not_opened []) (opened 5 (new_ack (new_id l.rows) g.hash l.mtu (lesser_of l.version v)))
 
 -- ---- in a session
 
@@ -133,12 +133,12 @@ module _ (l : Link) (i : ℕ) (p o : List ℕ) (h : Header) (consumed : ℕ) (pa
   link_after act = with_row l i (row_after row h g.hash act)
 
   -- the same, with the message's blocks freed
-  abbrev freedAfter : Act → Link
-  freedAfter act = with_owners (link_after act) (released owner owner l.owners)
+  abbrev freed_after : Act → Link
+  freed_after act = with_owners (link_after act) (released owner owner l.owners)
 
   -- "Its payload goes to the message's blocks, right behind the bytes already there"
-  abbrev poolAfter : List ℕ
-  poolAfter =
+  abbrev pool_after : List ℕ
+  pool_after =
       let m = message_at row (place_of h.service.0) in
       appended owner (m.total - m.missing) payload l.owners p
 
@@ -154,20 +154,20 @@ module _ (l : Link) (i : ℕ) (p o : List ℕ) (h : Header) (consumed : ℕ) (pa
   -- frame delivers its payload likewise. Bytes of out past those written stay." All refusals "leave everything unchanged but 24, 25"
   abbrev pub applied : Act → After
   applied (Refuse n) = after (answer.Refused n) l p o
-  applied (Drop n) = after (answer.Refused n) (freedAfter (Drop n)) p o
+  applied (Drop n) = after (answer.Refused n) (freed_after (Drop n)) p o
   applied Accept = after (answer.Accepted consumed) l p o
   applied Beat = replied answer.Beat l (reply beat_ack no_message_id [])
   applied Start = replied answer.Acked (link_after Start) (reply start_ack row.next (granted_payload row.version g.hash l.mtu))
   applied NoStart = replied answer.Nacked l (reply start_nak no_message_id [])
-  applied Stop = replied answer.Acked (freedAfter Stop) (reply end_ack row.next [])
+  applied Stop = replied answer.Acked (freed_after Stop) (reply end_ack row.next [])
   applied Close = replied answer.Acked (with_owners (link_after Close) (released (owner_of i 0) (owner_of i 4) l.owners)) (reply end_ack row.next [])
   applied (NoEnd named) = replied answer.Nacked l (reply end_nak no_message_id (pick named (nak_payload hash_id) []))
   applied (Claim total count) = after (answer.Accepted consumed) (with_owners (link_after (Claim total count)) (claimed owner (need_of total) l.owners)) p o
-  applied Append = after (answer.Accepted consumed) (link_after Append) poolAfter o
+  applied Append = after (answer.Accepted consumed) (link_after Append) pool_after o
   applied Deliver =
       let m = message_at row (place_of h.service.0) in
-      let bytes = take m.total (block_bytes owner l.owners poolAfter) in
-      after (answer.Delivered consumed h.service m.total) (freedAfter Deliver) poolAfter (laid bytes o)
+      let bytes = take m.total (block_bytes owner l.owners pool_after) in
+      after (answer.Delivered consumed h.service m.total) (freed_after Deliver) pool_after (laid bytes o)
   applied Single = after (answer.Delivered consumed h.service (length payload)) (link_after Single) p (laid payload o)
 
 -- ---- the call
@@ -177,7 +177,7 @@ unfoldable pub frame_of : Link → List ℕ → List ℕ → List ℕ → Header
 frame_of l p s o h e g =
     let payload = part s e.start (e.end - e.start) in
     unless (leb 128 (length o)) (after (answer.Refused 11) l p o)
-    (pick (opens h) (openingBy l p o e.consumed g (wish_of l.version.major payload))
+    (pick (opens h) (opening_by l p o e.consumed g (wish_of l.version.major payload))
     (unless (not (eqb h.session.0 0) && ltb (index_of h.session.0 l.rows) (length l.rows)) (after (answer.Refused 12) l p o)
     (applied l (index_of h.session.0 l.rows) p o h e.consumed payload g
     (decision_of l (index_of h.session.0 l.rows) h payload (length o)))))

@@ -86,20 +86,20 @@ module _ (l : Link) (r : Row) (h : Header) (g : Grant) where
   replying info message c = some (meant (reply_version l.version.major r) h.service info r.id message c)
 
   -- "(version 5: hash_id, mtu; below: raw hash)"; "with rejected_params ["hash_id"]; otherwise .. of size 0"
-  abbrev pub meantIn : Act → Option Meant
-  meantIn (Refuse n) = none
-  meantIn (Drop n) = none
-  meantIn Accept = none
-  meantIn Beat = replying beat_ack no_message_id empty
-  meantIn Start = replying start_ack r.next (pick (eqb r.version 5) (granted g.hash l.mtu) (hash g.hash))
-  meantIn NoStart = replying start_nak no_message_id empty
-  meantIn Stop = replying end_ack r.next empty
-  meantIn Close = replying end_ack r.next empty
-  meantIn (NoEnd named) = replying end_nak no_message_id (pick named (rejecting hash_id) empty)
-  meantIn (Claim total count) = none
-  meantIn Append = none
-  meantIn Deliver = none
-  meantIn Single = none
+  abbrev pub meant_in : Act → Option Meant
+  meant_in (Refuse n) = none
+  meant_in (Drop n) = none
+  meant_in Accept = none
+  meant_in Beat = replying beat_ack no_message_id empty
+  meant_in Start = replying start_ack r.next (pick (eqb r.version 5) (granted g.hash l.mtu) (hash g.hash))
+  meant_in NoStart = replying start_nak no_message_id empty
+  meant_in Stop = replying end_ack r.next empty
+  meant_in Close = replying end_ack r.next empty
+  meant_in (NoEnd named) = replying end_nak no_message_id (pick named (rejecting hash_id) empty)
+  meant_in (Claim total count) = none
+  meant_in Append = none
+  meant_in Deliver = none
+  meant_in Single = none
 
 -- the reply that a call means, by the frame at the front of its input; `room` is out's length
 abbrev pub meant_of : Link → List ℕ → ℕ → Grant → Reading → Option Meant
@@ -108,7 +108,7 @@ meant_of l s room g (reading.Refused n) = none
 meant_of l s room g (reading.Frame h e) =
     let i = index_of h.session.0 l.rows in
     pick (opens h) (some (meant_by l g (wish_of l.version.major (payload_part s e))))
-    (meantIn l (get_or l.rows i no_row) h g (decision_of l i h (payload_part s e) room))
+    (meant_in l (get_or l.rows i no_row) h g (decision_of l i h (payload_part s e) room))
 
 -- ---- and is read back
 

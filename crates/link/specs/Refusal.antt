@@ -23,8 +23,8 @@ module _ (l : Link) (p s o : List ℕ) where
   Unchanged w = (w.link ≡ l) × (w.pool ≡ p) × (w.out ≡ o)
 
   -- the message of row i at a place
-  abbrev pub openMessage : ℕ → ℕ → Reassembly
-  openMessage i place = message_at (get_or l.rows i no_row) place
+  abbrev pub open_message : ℕ → ℕ → Reassembly
+  open_message i place = message_at (get_or l.rows i no_row) place
 
   -- the link without the open message of row i at a place: its row without it, its blocks free
   abbrev pub without : ℕ → ℕ → Link
@@ -40,8 +40,8 @@ module _ (l : Link) (p s o : List ℕ) where
     pub some-session : header.session.0 ≡ 0 → ⊥
     pub found : index_of header.session.0 l.rows < length l.rows
     -- a message is open there on that service, and it is the one with that id
-    pub live : (openMessage (index_of header.session.0 l.rows) (place_of header.service.0)).live ≡ true
-    pub named : (openMessage (index_of header.session.0 l.rows) (place_of header.service.0)).id.0 ≡ header.message.0
+    pub live : (open_message (index_of header.session.0 l.rows) (place_of header.service.0)).live ≡ true
+    pub named : (open_message (index_of header.session.0 l.rows) (place_of header.service.0)).id.0 ≡ header.message.0
     -- it is dropped, and nothing else of the state changes
     pub link : w.link ≡ without (index_of header.session.0 l.rows) (place_of header.service.0)
     -- "no lent byte"

@@ -39,14 +39,14 @@ several_length o m e = omega (arith, leb-false (length m) o.chunk e)
 pub chunk_cut : (o : Outgoing) (m : List ℕ) (k e : ℕ) → e ≡ min ((k - 1) * o.chunk + o.chunk) (length m) → (k - 1) * o.chunk ≤ length m
     → part m ((k - 1) * o.chunk) (e - (k - 1) * o.chunk) ≡ chunk_of o m k
 unfolding chunk_of
-chunk_cut o m k e q h = byEnd (leb ((k - 1) * o.chunk + o.chunk) (length m)) refl
+chunk_cut o m k e q h = by_end (leb ((k - 1) * o.chunk + o.chunk) (length m)) refl
   where
-    byEnd : (b : Bool) → leb ((k - 1) * o.chunk + o.chunk) (length m) ≡ b → part m ((k - 1) * o.chunk) (e - (k - 1) * o.chunk) ≡ part m ((k - 1) * o.chunk) o.chunk
-    byEnd true t =
+    by_end : (b : Bool) → leb ((k - 1) * o.chunk + o.chunk) (length m) ≡ b → part m ((k - 1) * o.chunk) (e - (k - 1) * o.chunk) ≡ part m ((k - 1) * o.chunk) o.chunk
+    by_end true t =
         let l : (k - 1) * o.chunk + o.chunk ≤ length m = leb-true ((k - 1) * o.chunk + o.chunk) (length m) t in
         let z : e - (k - 1) * o.chunk ≡ o.chunk = omega arith in
         rw z
-    byEnd false t =
+    by_end false t =
         let l : length m < (k - 1) * o.chunk + o.chunk = leb-false ((k - 1) * o.chunk + o.chunk) (length m) t in
         let d = length-drop ((k - 1) * o.chunk) m in
         take_all (e - (k - 1) * o.chunk) (drop ((k - 1) * o.chunk) m) (omega arith) ∙ sym (take_all o.chunk (drop ((k - 1) * o.chunk) m) (omega arith))

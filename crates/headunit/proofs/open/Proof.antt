@@ -3,7 +3,7 @@
 use Prim.Native.Nat.{ℕ}
 use mathlib.Core.Path.{◌∙◌, ap, sym}
 use native.Mathlib.Omega.{arith}
-use Rattle.link.specs.Call.{Wish, wish_of, openingBy}
+use Rattle.link.specs.Call.{Wish, wish_of, opening_by}
 use Rattle.link.proofs.Wishes.{wish_bounded}
 use Rattle.state.specs.Layout.{link_of}
 use Rattle.state.specs.Calls.{left_by}
@@ -28,20 +28,20 @@ not-readable-requires c κs = (c.before.before.before.before.before.before.befor
 returns : tie.Need-returns
 returns c = let a = c.before.before.before.before.before.before.before.before.before.before.before.before.before.before.before.args in
     let s = a.link.now in
-    λ p. c.before.before.before.before.open-old.ensures p ∙ ap (λ (x : Wish). left_by s (openingBy (link_of s) p a.out.now a.consumed a.grant x))
+    λ p. c.before.before.before.before.open-old.ensures p ∙ ap (λ (x : Wish). left_by s (opening_by (link_of s) p a.out.now a.consumed a.grant x))
     (sym (ap wish_from c.before.before.before.before.before.before.before.enum_told.given.1) ∙ c.before.before.before.before.before.before.before.before.before.wish-of.ensures ∙ ap (λ (n : ℕ). wish_of n a.payload.now) c.before.before.before.before.before.before.before.before.before.before.major.ensures)
 
 returns-2 : tie.Need-returns-2
 returns-2 c = let a = c.before.before.before.before.before.before.before.before.before.before.before.before.before.before.before.before.args in
     let s = a.link.now in
-    λ p. c.before.before.before.before.open-new.ensures p ∙ ap (λ (x : Wish). left_by s (openingBy (link_of s) p a.out.now a.consumed a.grant x))
+    λ p. c.before.before.before.before.open-new.ensures p ∙ ap (λ (x : Wish). left_by s (opening_by (link_of s) p a.out.now a.consumed a.grant x))
     (sym (ap wish_from c.before.before.before.before.before.before.before.before.wish.given.1) ∙ c.before.before.before.before.before.before.before.before.before.before.wish-of.ensures ∙ ap (λ (n : ℕ). wish_of n a.payload.now) c.before.before.before.before.before.before.before.before.before.before.before.major.ensures)
 
 returns-3 : tie.Need-returns-3
 returns-3 c = let a = c.before.before.before.before.before.before.before.before.before.before.before.before.args in
     let s = a.link.now in
     λ p. state_left s c.before.before.before.before.before.before.before.before.before.before.before.before.requires.0 _ p _ (c.before.before.not-readable.ensures (link_of s) p a.grant c.before.before.before.before.before.before.before.major.ensures
-    ∙ ap (λ (x : Wish). (openingBy (link_of s) p a.out.now a.consumed a.grant x))
+    ∙ ap (λ (x : Wish). (opening_by (link_of s) p a.out.now a.consumed a.grant x))
     (sym (ap wish_from c.before.before.before.before.enum-told2.given.1) ∙ c.before.before.before.before.before.before.wish-of.ensures ∙ ap (λ (n : ℕ). wish_of n a.payload.now) c.before.before.before.before.before.before.before.major.ensures))
 
 pub open_spec : {M : Type 1} → statement M
