@@ -1,7 +1,7 @@
 -- A line as a whole: which lines are taken, from what the decoder and the reader say, and what a line leaves, from what its parts leave.
 -- By the tests of the definitions. Assumes nothing.
 use Rattle.std.proofs.Common.{◌≡◌, ℕ, ◌/◌, ◌%◌, ◌<◌, ◌≤◌, Bool, true, false, not, eqb, ltb, List, [], ◌∷◌, length, take, drop, sym, refl, ap, ◌∙◌, subst, arith, take_at, ltb-true, eq-eqb, ne_eqb, eqb-true, le-leb}
-use mathlib.Core.Bool.{and_false}
+use mathlib.Core.Bool.{and-false}
 use borrow.Author.Tests.{lt-leb, eqb-false, not-true, not-false}
 use Rattle.numbers.specs.Bytes.{pick, laid}
 use Rattle.numbers.proofs.Choices.{split, either}
@@ -73,7 +73,7 @@ module _ (line : List ℕ) where
 
   pub other_line : length line ≤ 3000 → every is_hex line ≡ false → is_taken line ≡ false
   unfolding is_taken
-  other_line l h = rw (le-leb (length line) 3000 l, h) (and_false (eqb (length line % 2) 0))
+  other_line l h = rw (le-leb (length line) 3000 l, h) (and-false (eqb (length line % 2) 0))
 
   pub frame_line : {b : Bool} {f : List ℕ} → length line ≤ 3000 → length line % 2 ≡ 0 → every is_hex line ≡ true → f ≡ bytes_of line → b ≡ is_frame f (read_of f) → is_taken line ≡ b
   unfolding is_taken

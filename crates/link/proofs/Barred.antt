@@ -2,7 +2,7 @@
 -- Assumes nothing.
 use Prim.Native.Nat.{ℕ, zero, suc}
 use mathlib.Core.Path.{◌≡◌, refl, ap, sym, subst, ◌∙◌, fun_ext}
-use mathlib.Core.Bool.{false, and_false}
+use mathlib.Core.Bool.{false, and-false}
 use mathlib.Core.Option.{Option, none}
 use mathlib.Core.List.{List, [], ◌∷◌}
 use native.Mathlib.Omega.{arith}
@@ -29,7 +29,7 @@ other_pool l pool e g = rw e
 
 pub other_settings : (l : Link) (pool : ℕ) → settings_fit l.version l.mtu ≡ false → (g : Grant) → guard_of l pool g ≡ false
 unfolding guard_of
-other_settings l pool e g = rw (e, and_false)
+other_settings l pool e g = rw (e, and-false)
 
 -- ---- the book
 

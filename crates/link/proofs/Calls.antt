@@ -4,7 +4,7 @@
 use Prim.Native.Nat.{ℕ, ◌+◌, ◌-◌, ◌≤◌, ◌<◌}
 use mathlib.Core.Path.{◌≡◌, refl, sym, subst, ◌∙◌}
 use mathlib.Core.Logic.{◌⊎◌, inl, inr}
-use mathlib.Core.Bool.{Bool, true, false, ◌&&◌, and_true, not}
+use mathlib.Core.Bool.{Bool, true, false, ◌&&◌, and-true, not}
 use mathlib.Core.List.{List}
 use native.Mathlib.Omega.{arith}
 use lib.Dec.{T, eqb, ltb, leb}
@@ -106,7 +106,7 @@ module _ (l : Link) (p s o : List ℕ) (g : Grant) where
 -- in a state within the rules, 10 is refused for the offer alone
 pub guard_is : (s : State) (g : Grant) → Sane s → guard_of s.link (length s.pool) g ≡ grant_fits g
 unfolding guard_of
-guard_is s g k = rw (k.pool, k.settings, k.rules, and_true)
+guard_is s g k = rw (k.pool, k.settings, k.rules, and-true)
 
 pub open_test : (s : State) (i : ℕ) → is_open s i ≡ true → not (eqb i 0) && ltb (index_of i s.link.rows) (length s.link.rows) ≡ true
 unfolding is_open

@@ -3,7 +3,7 @@
 -- Assumes nothing.
 use Prim.Native.Nat.{ℕ, ◌-◌, ◌≤◌}
 use mathlib.Core.Path.{◌≡◌, refl, sym, subst, ◌∙◌}
-use mathlib.Core.Bool.{true, false, not, ◌&&◌, and_false}
+use mathlib.Core.Bool.{true, false, not, ◌&&◌, and-false}
 use mathlib.Core.List.{List}
 use native.Mathlib.Omega.{arith}
 use lib.Dec.{T, eqb, ltb}
@@ -130,7 +130,7 @@ module _ (l : Link) (shape : Shaped l) (p s o : List ℕ) (g : Grant) where
   -- a First Frame is no opening
   first_within : (h : Header) (e : Extent) → read_of s ≡ reading.Frame h e → h.kind ≡ 2 → IsWithin (seen_of s)
   unfolding seen_of opens
-  first_within h e f kind = let z : eqb h.kind 0 ≡ false = ne_eqb h.kind 0 (omega arith) in rw (f, z, and_false) tt
+  first_within h e f kind = let z : eqb h.kind 0 ≡ false = ne_eqb h.kind 0 (omega arith) in rw (f, z, and-false) tt
 
 pub search_counts : SearchCounts
 search_counts l shape p s o g h e a =

@@ -2,7 +2,7 @@
 -- Assumes nothing.
 use Prim.Native.Nat.{ℕ, ◌+◌, ◌≤◌}
 use mathlib.Core.Path.{◌≡◌, refl}
-use mathlib.Core.Bool.{Bool, true, false, ◌&&◌, and_false, not}
+use mathlib.Core.Bool.{Bool, true, false, ◌&&◌, and-false, not}
 use mathlib.Core.Option.{none, some}
 use native.Mathlib.Omega.{arith}
 use lib.Dec.{eqb, leb, ltb}
@@ -89,4 +89,4 @@ closed_page t i e = rw e
 -- its id may be in no row
 pub missing_closed : (t : State) (i : ℕ) → index_of i t.link.rows ≡ length t.link.rows → is_open t i ≡ false
 unfolding is_open
-missing_closed t i e = let n : ℕ = length t.link.rows in rw (e, le-ltb n n (omega arith), and_false)
+missing_closed t i e = let n : ℕ = length t.link.rows in rw (e, le-ltb n n (omega arith), and-false)

@@ -2,7 +2,7 @@
 -- both. By one law for each number compared, used for major and for minor. Assumes nothing.
 use Prim.Native.Nat.{ℕ, ◌≤◌, ◌<◌}
 use mathlib.Core.Path.{◌≡◌, refl, ◌∙◌, sym}
-use mathlib.Core.Bool.{Bool, true, false, or_false}
+use mathlib.Core.Bool.{Bool, true, false, or-false}
 use mathlib.Core.Logic.{◌⊎◌, inl, inr, ⊎_elim}
 use native.Mathlib.Omega.{arith}
 use lib.Dec.{leb, ltb, eqb}
@@ -32,7 +32,7 @@ module _ (x y : ℕ) where
       rw (le-ltb x y (omega arith), ne_eqb x y n)
 
   differs : (r : Bool) → (x ≡ y → ⊥) → ltb x y ≡ below_or x y r
-  differs r h = rw (ne_eqb x y h) (sym (or_false _))
+  differs r h = rw (ne_eqb x y h) (sym (or-false _))
 
 -- so code compares two versions by the first numbers that differ
 module _ (a b : Version) where
