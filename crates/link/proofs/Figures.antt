@@ -1,5 +1,5 @@
 -- Document 01's marked cases, by computation; the pool's bytes are not looked at. Assumes nothing.
-use Rattle.bytes.specs.Bytes.{index_of as byteIndex, index_after}
+use Rattle.lines.specs.Place.{index_of as byte_index}
 use Rattle.lines.specs.Decimal.{value_from, value_of, number_of, digits_by, decimal_of}
 use Rattle.numbers.specs.Numbers.{value_le, value_be, bytes_le, bytes_be}
 use Rattle.frame.specs.Rules.{known_version, listed_service, info_fits, flag_fits, largest, size_fits, fault_of, header_size}
@@ -18,5 +18,5 @@ use Rattle.link.specs.Call.{wish_of, opens, admits, old_version, decision_of, fr
 use Rattle.link.specs.Figures.{figures, FiguresRight}
 
 pub figures_right : FiguresRight
-unfolding figures byteIndex index_after value_from value_of number_of digits_by decimal_of value_le value_be bytes_le bytes_be known_version listed_service info_fits flag_fits largest size_fits fault_of header_size totals_fit front_of message_of read_of message_bytes payload_of document_of part_of version_from version_of version_text element_head document int32_element int64_element string_element array_element grant_elements rejected_element ack_payload nak_payload held_by held_by_all free_map claimed settled_row with_message_at version_fits mtu_fits is_running service_fits takes_beats command_fits barred_by place_of need_of message_blocks held_in first_of content_of index_of owner_of shares_in distinct_ids room_fits version_allowed service_at message_fits unsettled_fits blocks_fit free_fits row_fits rules_hold settings_fit grant_fits guard_of lowest_free wish_of opens admits old_version decision_of frame_of call_of
+unfolding figures byte_index value_from value_of number_of digits_by decimal_of value_le value_be bytes_le bytes_be known_version listed_service info_fits flag_fits largest size_fits fault_of header_size totals_fit front_of message_of read_of message_bytes payload_of document_of part_of version_from version_of version_text element_head document int32_element int64_element string_element array_element grant_elements rejected_element ack_payload nak_payload held_by held_by_all free_map claimed settled_row with_message_at version_fits mtu_fits is_running service_fits takes_beats command_fits barred_by place_of need_of message_blocks held_in first_of content_of index_of owner_of shares_in distinct_ids room_fits version_allowed service_at message_fits unsettled_fits blocks_fit free_fits row_fits rules_hold settings_fit grant_fits guard_of lowest_free wish_of opens admits old_version decision_of frame_of call_of
 figures_right pool e = rw e

@@ -1,8 +1,8 @@
 -- An admitted First Frame's search looks at the blocks up to its highest one. By the cases of the call and of the decision: 18 says that it needs a block, 19
 -- that its owner has none, and 20, 21 with the state rules that enough are free.
 -- Assumes nothing.
-use Prim.Native.Nat.{ℕ, ◌-◌, ◌≤◌}
-use mathlib.Core.Path.{◌≡◌, refl, sym, subst, ◌∙◌}
+use Prim.Native.Nat.{ℕ, suc, ◌-◌, ◌≤◌}
+use mathlib.Core.Path.{◌≡◌, refl, ap, sym, subst, ◌∙◌}
 use mathlib.Core.Bool.{true, false, not, ◌&&◌, and-false}
 use mathlib.Core.List.{List}
 use native.Mathlib.Omega.{arith}
@@ -18,7 +18,7 @@ use Rattle.frame.specs.declared.Reading.{Reading}
 use Rattle.frame.specs.declared.Reading.TheVariants as reading
 use Rattle.frame.specs.Read.{read_of}
 use Rattle.frame.proofs.Message.{totals_range}
-use Rattle.blocks.specs.Map.{held_by}
+use Rattle.blocks.specs.Map.{held_by, claimed, looked_for, block_numbers, highest_of}
 use Rattle.blocks.proofs.Looks.{looked_highest}
 use Rattle.session.specs.declared.Act.{Act}
 use Rattle.session.specs.Decide.{place_of, need_of}
@@ -95,21 +95,23 @@ module _ (l : Link) (shape : Shaped l) (p s o : List ℕ) (g : Grant) where
     abbrev ask : Ask
     ask = first place h.message.0 (value_be (part payload 0 4)) (value_be (part payload 4 4))
 
-    first-searched : {act : Act} → Decided l n h payload ask act → T (is_accepted (leaves act).answer) → Searched l s h e (leaves act)
-    first-searched (refuses b) t = absurd t
-    first-searched (claims q d fit idle within_cap w) t =
+    -- whatever place, id and numbers were asked for: the total is the payload's
+    first-asked : {at id total count : ℕ} {act : Act} → Decided l n h payload (first at id total count) act → total ≡ value_be (part payload 0 4)
+        → T (is_accepted (leaves act).answer) → Searched l s h e (leaves act)
+    first-asked (refuses b) is t = absurd t
+    first-asked {total = total} (claims q d fit idle within_cap w) is t =
         let k : Sane state = guard_sane l p g shape guard in
         let f : OpenFacts state h.session.0 n = open_facts state h.session.0 k (is_open_lem state h.session.0 found) in
         let none : held_by (owner_for l h) l.owners ≡ 0 = f.room place (place_below h.service.0) ∙ held_idle _ idle in
-        let need : ℕ = need_for s e in
         record {
-          chosen = refl;
-          counted = omega (
-            arith,
-            looked_highest (owner_for l h) need l.owners (owner_some n place) none (need_some _ (totals_range _ _ fit).some_bytes)
-                (claim_room state h.session.0 n k f need w),
-          );
+          chosen = ap (λ (x : ℕ). claimed (owner_for l h) (need_of x) l.owners) is;
+          counted = subst (λ (x : ℕ). looked_for (need_of x) l.owners ≡ suc (highest_of (block_numbers (owner_for l h) (claimed (owner_for l h) (need_of total) l.owners)))) is
+              (looked_highest (owner_for l h) (need_of total) l.owners (owner_some n place) none (need_some _ (totals_range _ _ fit).some_bytes)
+              (claim_room state h.session.0 n k f (need_of total) w));
         }
+
+    first-searched : {act : Act} → Decided l n h payload ask act → T (is_accepted (leaves act).answer) → Searched l s h e (leaves act)
+    first-searched d t = first-asked d refl t
 
     -- which is what is decided on
     first-ask : h.kind ≡ 2 → ask_of h payload ≡ ask
