@@ -6,3 +6,4 @@ pub mod Digits
 pub mod Laws
 mod Cases
 mod Outcomes
+pub mod Places

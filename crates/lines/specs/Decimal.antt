@@ -29,6 +29,6 @@ digits_by zero n = []
 digits_by (suc bound) zero = []
 digits_by (suc bound) (suc m) = digits_by bound (suc m / 10) ++ (48 + suc m % 10) ∷ []
 
--- the decimal text of n: 0 is one digit, any other has no spare zeros; n has at most n digits, so the bound decides nothing (decimal_one, decimal-step of proofs/Digits.antt)
+-- the decimal text of n: 0 is one digit, any other has no spare zeros; n has at most n digits, so the bound decides nothing (decimal_one, decimal_step of proofs/Digits.antt)
 unfoldable pub decimal_of : ℕ → List ℕ
 decimal_of n = pick (eqb n 0) (48 ∷ []) (digits_by n n)

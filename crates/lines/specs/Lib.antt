@@ -2,3 +2,4 @@ pub mod Text
 pub mod Hex
 pub mod Decimal
 pub mod Newline
+pub mod Place

@@ -1,4 +1,4 @@
-// Hexadecimal and decimal text: bytes as hexadecimal digits and back, numbers as decimal digits and back; and where a line of text ends.
+// Hexadecimal and decimal text: bytes as hexadecimal digits and back, numbers as decimal digits and back; where a line of text ends, and where a byte stands.
 // Every public function answers every input. Its contract fixes the answer and each byte of the lent buffer; a refused call leaves the buffer as it was.
 #![tactic(auto)]
 
@@ -7,6 +7,8 @@ ghost use Rattle.lines.specs.Text.{between, every, encoded, written_of};
 ghost use Rattle.numbers.specs.Bytes.{laid};
 ghost use Rattle.lines.specs.Hex.{digit_of, is_hex, is_lower_hex, bytes_of, pairs_of, is_pair, pair_byte, decoded, decode_of, letter_of, hex_of};
 ghost use Rattle.lines.specs.Newline.{is_in_line, line_length, line_end_of};
+ghost use Rattle.lines.specs.Place.{index_of};
+ghost use Rattle.std.proofs.Math.Seq.{slice};
 ghost use Rattle.lines.specs.Decimal.{is_decimal, value_of, number_of, decimal_of};
 
 // What decoding hexadecimal text answers: how many bytes were written, or why none.
@@ -363,4 +365,21 @@ pub fn line_end(text: &[u8], from: usize) -> usize
     let far = pass_groups(text, start, GROUP);
     let near = pass_groups(text, far, SMALL_GROUP);
     near + line_length(&text[near..])
+}
+
+// Where a byte stands: the first place from one on and before another; where there is none, the end of what was looked through.
+pub fn find(bytes: &[u8], from: usize, to: usize, byte: u8) -> usize
+    ensures value { result ≡ from + index_of byte (slice from to bytes.now) }
+    ensures lower_bound { from ≤ result }
+    ensures upper_bound { from ≤ to → result ≤ to }
+{
+    let end = numbers::least(to, bytes.len());
+    let mut i = from;
+    while i < end {
+        if bytes[i] == byte {
+            return i;
+        }
+        i += 1;
+    }
+    i
 }

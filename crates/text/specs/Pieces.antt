@@ -1,5 +1,5 @@
--- Bytes put into a buffer, the place of a byte, and the number that shows a buffer. Assumes nothing.
-use Rattle.std.specs.Prelude.{ℕ, suc, ◌+◌, ◌-◌, ◌*◌, ◌%◌, List, [], ◌∷◌, ◌++◌, eqb, leb, length, take, drop}
+-- Bytes put into a buffer, and the number that shows a buffer. Assumes nothing.
+use Rattle.std.specs.Prelude.{ℕ, ◌+◌, ◌-◌, ◌*◌, ◌%◌, List, [], ◌∷◌, ◌++◌, leb, length, take, drop}
 use Rattle.numbers.specs.Bytes.{pick}
 use Rattle.lines.specs.declared.Encoded.{Encoded}
 use Rattle.lines.specs.declared.Encoded.TheVariants.{Chars, Full}
@@ -13,11 +13,6 @@ fitting buffer at bytes = take (length buffer - at) bytes
 abbrev pub put_into : List ℕ → ℕ → List ℕ → List ℕ
 put_into buffer at bytes =
     take at buffer ++ (fitting buffer at bytes ++ drop (at + length (fitting buffer at bytes)) buffer)
-
--- how many bytes stand before the first b; all of them where there is none
-unfoldable pub index_of : ℕ → List ℕ → ℕ
-index_of b [] = 0
-index_of b (x ∷ bytes) = pick (eqb x b) 0 (suc (index_of b bytes))
 
 -- the characters that a writer of `lines` wrote
 abbrev pub count_of : Encoded → ℕ

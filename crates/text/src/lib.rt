@@ -10,8 +10,7 @@ ghost use Rattle.numbers.specs.Bytes.{pick, part as part_of};
 ghost use Rattle.lines.specs.Hex.{hex_of};
 ghost use Rattle.lines.specs.Decimal.{decimal_of};
 ghost use Rattle.text.specs.Said.{Started, Longer, Marked};
-ghost use Rattle.text.specs.Pieces.{fitting, put_into, index_of, check_of, count_of, digits_of};
-ghost use Rattle.std.proofs.Math.Seq.{slice};
+ghost use Rattle.text.specs.Pieces.{fitting, put_into, check_of, count_of, digits_of};
 
 use lines::Encoded;
 
@@ -51,22 +50,6 @@ pub fn part(whole: &[u8], at: usize, count: usize) -> &[u8]
     let start = numbers::least(at, whole.len());
     let end = start + numbers::least(count, whole.len() - start);
     &whole[start..end]
-}
-
-// The first place from one on and before another where a byte stands; the second of the two where there is none.
-pub fn find(whole: &[u8], from: usize, to: usize, byte: u8) -> usize
-    requires { (from ≤ to) × (to ≤ length whole.now) }
-    ensures value { result ≡ from + index_of byte (slice from to whole.now) }
-    ensures bounds { (from ≤ result) × (result ≤ to) }
-{
-    let mut i = from;
-    while i < to {
-        if whole[i] == byte {
-            return i;
-        }
-        i += 1;
-    }
-    to
 }
 
 // Bytes into a buffer from a place on, as far as they fit. Answers where they end.

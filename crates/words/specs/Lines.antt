@@ -1,6 +1,7 @@
 -- What a whole line says, and the bytes of its last word or its last two: docs/DRIVER.md. Assumes nothing.
 use Rattle.std.specs.Prelude.{ℕ, ◌+◌, Bool, true, false, ◌&&◌, List, [], ◌∷◌, ◌++◌, eqb, ltb, length, take, drop, replicate}
-use Rattle.bytes.specs.Bytes.{index_of, slice}
+use Rattle.std.proofs.Math.Seq.{slice}
+use Rattle.lines.specs.Place.{index_of}
 use Rattle.numbers.specs.Bytes.{pick}
 use Rattle.lines.specs.declared.Decoded.{Decoded}
 use Rattle.lines.specs.declared.Decoded.TheVariants.{Bytes, Odd, NotHex, Full}

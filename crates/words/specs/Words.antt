@@ -1,7 +1,8 @@
 -- The words of a line, and the numbers among them: docs/DRIVER.md. A character is its number, as ' ' is 32; a line is the list of its characters.
 -- A word is named by the positions of the spaces around it; the line's length stands for a space behind the last word. Assumes nothing.
-use Rattle.std.specs.Prelude.{ℕ, ◌+◌, min, Bool, true, false, ◌&&◌, ◌||◌, List, [], ◌∷◌, eqb, leb, length, take, drop, get_or, set, replicate}
-use Rattle.bytes.specs.Bytes.{index_of, slice}
+use Rattle.std.specs.Prelude.{ℕ, ◌+◌, min, Bool, true, false, ◌&&◌, List, [], ◌∷◌, eqb, leb, length, take, drop, get_or, set, replicate}
+use Rattle.std.proofs.Math.Seq.{slice}
+use Rattle.lines.specs.Place.{index_of}
 use Rattle.numbers.specs.Bytes.{pick}
 use Rattle.lines.specs.declared.Number.{Number}
 use Rattle.lines.specs.declared.Number.TheVariants.{Value, NotDecimal, TooLarge}

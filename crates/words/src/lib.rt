@@ -9,7 +9,7 @@ ghost use Rattle.lines.specs.Decimal.{number_of};
 ghost use Rattle.words.specs.Words.{same_bytes, is_silent, word_end, between as betweenOf, word_of, form_word, word_at, numbers_of, plain_form, link_form_of, rpc_form_of, form_of};
 ghost use Rattle.words.specs.Lines.{leaves, hex_word, two_words, last_of, bare_command, whole_of, leaving, command_of};
 
-use lines::{Decoded, Number};
+use lines::{Decoded, Number, find};
 use text::{front, past};
 
 // The commands. A line that says none of them is unreadable; a silent one gets no answer.
@@ -130,7 +130,7 @@ fn word_end(line: &[u8], space: usize) -> usize
     ensures { result ≡ word_end line.now space }
 {
     let start = past(space, line.len());
-    bytes::scan::find(line, start, line.len(), b' ')
+    find(line, start, line.len(), b' ')
 }
 
 // What stands behind a space, up to `end`; nothing where there is no such part.
@@ -438,7 +438,7 @@ pub fn command_of(line: &[u8], content: &mut [u8]) -> Command
     if is_silent(line) {
         return bare(SILENT);
     }
-    let space = bytes::scan::find(line, 0, line.len(), b' ');
+    let space = find(line, 0, line.len(), b' ');
     let form = form_of(front(line, space));
     let numbers = numbers_at(line, space, form);
     let last = last_word(line, form.kind, numbers.end, content);
