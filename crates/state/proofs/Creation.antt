@@ -3,16 +3,16 @@ use Prim.Native.Nat.{ℕ, ◌+◌, ◌≤◌}
 use mathlib.Core.Path.{◌≡◌, refl, ap, ◌∙◌}
 use mathlib.Core.List.{List, [], ◌∷◌, ◌++◌, append_assoc, append-nil}
 use native.Mathlib.Omega.{arith}
-use lib.ListN.{length, take, drop, set, length-append, drop_of_length-le, length-set}
-use lib.Seq.{take_all, drop-drop}
-use Rattle.numbers.specs.Bytes.{part, put_at, laid}
+use lib.ListN.{length, drop, set, length-append, drop_of_length-le, length-set}
+use lib.Seq.{drop-drop}
+use Rattle.numbers.specs.Bytes.{put_at, laid}
 use Rattle.numbers.specs.Numbers.{bytes_le}
 use Rattle.numbers.proofs.Laws.{length_le}
 use Rattle.frame.proofs.Buffers.{four_stored, laid_more, laid_length}
 use borrow.Rule.Slice.PartMut.{put_mid}
 use Rattle.payload.specs.declared.version.Version.{Version}
 use Rattle.state.specs.Calls.{settings_bytes}
-use Rattle.state.proofs.Packed.{put_is, part_length}
+use Rattle.state.proofs.Packed.{put_is}
 
 pub settings_put : (v : Version) (mtu : ℕ) (o q : List ℕ) → 8 ≤ length o
     → q ≡ put_at (set (set (set (set o 0 1) 1 v.major) 2 v.minor) 3 v.patch) 4 4 (bytes_le 4 mtu) → q ≡ laid (settings_bytes v mtu) o
@@ -24,13 +24,11 @@ settings_put v mtu o q h e =
     (e ∙ put_is p 4 4 (bytes_le 4 mtu) (length_le 4 mtu) (omega arith))
 
 -- bytes copied right behind those that were laid
-pub copied : (a b o p q r : List ℕ) (n w : ℕ) → length a ≡ n → length b ≡ w → n + w ≤ length o → p ≡ laid a o → r ≡ take (length b) b ++ drop (length b) (part p n w)
+pub copied : (a b o p q r : List ℕ) (n w : ℕ) → length a ≡ n → length b ≡ w → n + w ≤ length o → p ≡ laid a o → r ≡ b
     → q ≡ put_mid n w p r → q ≡ laid (a ++ b) o
 copied a b o p q r n w l m h e f g =
     let long : length p ≡ length o = rw e (laid_length a o (omega arith)) in
-    let none : drop (length b) (part p n w) ≡ [] = drop_of_length-le (part p n w) {i = length b} (omega (arith, part_length p n w (omega arith))) in
-    let whole : r ≡ b = f ∙ rw (take_all (length b) b (omega arith), none, append-nil) in
-    laid_more a b o p q n w l m e (g ∙ rw (whole, drop-drop))
+    laid_more a b o p q n w l m e (g ∙ rw (f, drop-drop))
 
 -- three pieces behind the settings: z reserved bytes, the map, the rows
 module _ (v : Version) (mtu : ℕ) (o z free rows : List ℕ) (whole : length o ≡ 2688) (long : length z ≡ 536) (map : length free ≡ 256) (rest : length rows ≡ 1888) where
@@ -38,9 +36,9 @@ module _ (v : Version) (mtu : ℕ) (o z free rows : List ℕ) (whole : length o 
   settings_length = omega (arith, length_le 4 mtu)
 
   pub created_whole : (p₁ p₂ p₃ p₄ r₂ r₃ r₄ : List ℕ) → p₁ ≡ laid (settings_bytes v mtu) o
-      → r₂ ≡ take (length z) z ++ drop (length z) (part p₁ 8 536) → p₂ ≡ put_mid 8 536 p₁ r₂
-      → r₃ ≡ take (length free) free ++ drop (length free) (part p₂ 544 256) → p₃ ≡ put_mid 544 256 p₂ r₃
-      → r₄ ≡ take (length rows) rows ++ drop (length rows) (part p₃ 800 1888) → p₄ ≡ put_mid 800 1888 p₃ r₄
+      → r₂ ≡ z → p₂ ≡ put_mid 8 536 p₁ r₂
+      → r₃ ≡ free → p₃ ≡ put_mid 544 256 p₂ r₃
+      → r₄ ≡ rows → p₄ ≡ put_mid 800 1888 p₃ r₄
       → p₄ ≡ settings_bytes v mtu ++ (z ++ (free ++ rows))
   created_whole p₁ p₂ p₃ p₄ r₂ r₃ r₄ e₁ c₂ e₂ c₃ e₃ c₄ e₄ =
       let a : List ℕ = settings_bytes v mtu in

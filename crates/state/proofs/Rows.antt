@@ -8,18 +8,17 @@ use mathlib.Core.Bool.{Bool, true, false, not, ◌&&◌}
 use mathlib.Core.List.{List, [], ◌∷◌, ◌++◌, map, append-nil}
 use native.Mathlib.Omega.{arith}
 use lib.Dec.{eqb, leb}
-use lib.ListN.{length, get_or, take, drop, set, replicate, take-append-drop, length-take, length-drop, drop_of_length-le, length-set, get_or-map}
+use lib.ListN.{length, get_or, drop, set, replicate, take-append-drop, length-take, length-drop, drop_of_length-le, length-set, get_or-map}
 use lib.Seq.{drop-drop, take_all, ext_get_or, get_or-set_same, get_or-set_other}
 use borrow.Author.Tests.{leb-true, leb-false, eqb-true}
-use Rattle.numbers.specs.Bytes.{AreBytes, part, put_at}
+use Rattle.numbers.specs.Bytes.{AreBytes, part}
 use Rattle.numbers.proofs.Choices.{split, either, same_or_not}
 use Rattle.numbers.proofs.Laws.{bytes_take, bytes_drop}
 use Rattle.frame.specs.declared.SessionId.{SessionId}
 use Rattle.numbers.specs.Numbers.{value_le}
 use Rattle.session.specs.declared.Reassembly.{Reassembly}
 use Rattle.session.specs.declared.Row.{Row}
-use Rattle.session.specs.Rows.{no_reassembly, message_at}
-use Rattle.link.specs.declared.Link.{Link}
+use Rattle.session.specs.Rows.{message_at}
 use Rattle.link.specs.State.{all, with_row}
 use Rattle.state.specs.Fields.{Field, AllFit, number_at, packed, put_from}
 use Rattle.state.specs.Layout.{kept, flags_in, message_of, message_in, head_fields, live_fields, four_fields, service_fields, message_fields, all_message_fields, row_of, row_fields, row_bytes, row_place, row_in, eight, link_of, with_row_bytes, Sound}

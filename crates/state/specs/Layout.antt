@@ -20,7 +20,7 @@ use Rattle.session.specs.declared.Reassembly.{Reassembly}
 use Rattle.session.specs.declared.Row.{Row}
 use Rattle.session.specs.Rows.{no_reassembly}
 use Rattle.link.specs.declared.Link.{Link}
-use Rattle.state.specs.Fields.{Field, field, size, packed, AllFit, number_at, flag_at}
+use Rattle.state.specs.Fields.{Field, field, packed, AllFit, number_at, flag_at}
 
 -- ---- a row: id, version, guarantee, cap; five times whether a message is open; whether audio and video run, the next ACK's number, the hashes; five messages
 

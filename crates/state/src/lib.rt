@@ -429,7 +429,7 @@ pub fn create(state: &mut [u8], version: Version, mtu: u32)
     let free = blocks::free_map();
     let rows = [0u8; 1888];
     put_settings(state, version, mtu);
-    bytes::copy(&reserved, &mut state[8..OWNERS]);
-    bytes::copy(&free, &mut state[OWNERS..ROWS]);
-    bytes::copy(&rows, &mut state[ROWS..LENGTH]);
+    state[8..OWNERS].copy_from_slice(&reserved);
+    state[OWNERS..ROWS].copy_from_slice(&free);
+    state[ROWS..LENGTH].copy_from_slice(&rows);
 }
