@@ -155,7 +155,7 @@ filled_of c input out =
 abbrev pub tag_text : List ℕ → Bool → ℕ → List ℕ
 tag_text name found value = name ++ pick found (decimal_of value) (45 ∷ [])
 
--- "T version=V": "V is `-` if protocol_version is absent, else its bytes in hexadecimal without the final 0"
+-- "T version=V": "V is `-` if protocolVersion is absent, else its bytes in hexadecimal without the final 0"
 abbrev pub version_text : StringTag → List ℕ → List ℕ
 version_text v input =
     (84 ∷ 32 ∷ 118 ∷ 101 ∷ 114 ∷ 115 ∷ 105 ∷ 111 ∷ 110 ∷ 61 ∷ [])

@@ -92,7 +92,7 @@ pub(crate) fn put_hash(from: From, message: MessageId, hash: u32, out: &mut [u8]
     put(from, START_ACK, message, &raw, out)
 }
 
-// A service's ACK in version 5: hash_id and mtu.
+// A service's ACK in version 5: hashId and mtu.
 pub(crate) fn put_granted(
     from: From,
     message: MessageId,
@@ -108,7 +108,7 @@ pub(crate) fn put_granted(
     put(from, START_ACK, message, &payload, out)
 }
 
-// The opening's ACK in version 5: hash_id, mtu and protocol_version. It is the session's first ACK.
+// The opening's ACK in version 5: hashId, mtu and protocolVersion. It is the session's first ACK.
 pub(crate) fn put_opened(
     session: SessionId,
     hash: u32,
@@ -139,7 +139,7 @@ pub(crate) fn put_nak(from: From, info: u8, parameter: Parameter, out: &mut [u8]
     put(from, info, MessageId(0), &payload[0..size], out)
 }
 
-// A service's ACK: hash_id and mtu in version 5, below it the raw hash. `settled` is the session's version.
+// A service's ACK: hashId and mtu in version 5, below it the raw hash. `settled` is the session's version.
 pub(crate) fn put_started(
     from: From,
     settled: u8,

@@ -61,12 +61,12 @@ abbrev pub wish_of_text : VersionText → Wish
 wish_of_text (text.Good v) = pick (ltb v.major 5) old (new v)
 wish_of_text text.Bad = bad
 
--- "or no protocol_version"; "an unreadable payload": "On service frames 30 to 34 lead to the NAKs above."
+-- "or no protocolVersion"; "an unreadable payload": "On service frames 30 to 34 lead to the NAKs above."
 abbrev pub wish_of_payload : List ℕ → Payload → Wish
 wish_of_payload p (bson.Accepted t) = unless t.version.found old (wish_of_text (version_of (part p t.version.at t.version.length)))
 wish_of_payload p (bson.Refused n) = bad
 
--- "If M is below 5, or there is no payload, or no protocol_version, or one below 5.0.0"
+-- "If M is below 5, or there is no payload, or no protocolVersion, or one below 5.0.0"
 unfoldable pub wish_of : ℕ → List ℕ → Wish
 wish_of major p = unless (eqb major 5) old (wish_of_payload p (payload_of p))
 
@@ -94,7 +94,7 @@ module _ (l : Link) (p o : List ℕ) (consumed : ℕ) (g : Grant) where
       (with_row l (index_of 0 l.rows) (opened_row (new_id l.rows) g.guarantee g.cap version g.hash))
       p (laid bytes o)
 
-  -- bad: "a NAK with rejected_params ["protocol_version"]"; "then, with any M, no free row, or a state rule broken by G, gets a NAK of data size 0"; old: "reply
+  -- bad: "a NAK with rejectedParams ["protocolVersion"]"; "then, with any M, no free row, or a state rule broken by G, gets a NAK of data size 0"; old: "reply
   -- ACK with header version min(M, 4)"; new: "Otherwise settle on the lesser of both versions"
   abbrev pub opening_by : Wish → After
   opening_by bad = not_opened (nak_payload protocol_version)
@@ -103,7 +103,7 @@ module _ (l : Link) (p o : List ℕ) (consumed : ℕ) (g : Grant) where
 
 -- ---- in a session
 
--- what a control frame's payload says of a hash: "(version 5: hash_id; below: exactly 4 raw bytes)". Below 5 any payload is readable
+-- what a control frame's payload says of a hash: "(version 5: hashId; below: exactly 4 raw bytes)". Below 5 any payload is readable
 abbrev pub said_by : Payload → Said
 said_by (bson.Accepted t) = record { readable = true; found = t.hash.found; hash = t.hash.value }
 said_by (bson.Refused n) = record { readable = false; found = false; hash = 0 }

@@ -115,7 +115,7 @@ figures pool =
     ∷ figure (announces announcement (read_of announcement)) (5 ∷ 2 ∷ 600 ∷ 2 ∷ 3 ∷ [])
     -- "Total 256 needs 1 block, 257 needs 2, 65,536 needs 256."
     ∷ figure (map need_of (256 ∷ 257 ∷ 65536 ∷ [])) (1 ∷ 2 ∷ 256 ∷ [])
-    -- "Payload for "5.4.1": `20 00 00 00 02`, "protocol_version" and 0, `06 00 00 00`, "5.4.1", two zeros: 32 bytes."
+    -- "Payload for "5.4.1": `20 00 00 00 02`, "protocolVersion" and 0, `06 00 00 00`, "5.4.1", two zeros: 32 bytes."
     ∷ figure (document (string_element protocol_version (version_text version541)))
     (0x20 ∷ 0 ∷ 0 ∷ 0 ∷ 0x02 ∷ 0x70 ∷ 0x72 ∷ 0x6F ∷ 0x74 ∷ 0x6F ∷ 0x63 ∷ 0x6F ∷ 0x6C ∷ 0x56 ∷ 0x65 ∷ 0x72 ∷ 0x73 ∷ 0x69 ∷ 0x6F ∷ 0x6E ∷ 0
     ∷ 0x06 ∷ 0 ∷ 0 ∷ 0 ∷ 0x35 ∷ 0x2E ∷ 0x34 ∷ 0x2E ∷ 0x31 ∷ 0 ∷ 0 ∷ [])

@@ -85,7 +85,7 @@ module _ (l : Link) (r : Row) (h : Header) (g : Grant) where
   abbrev replying : ℕ → MessageId → Carried → Option Meant
   replying info message c = some (meant (reply_version l.version.major r) h.service info r.id message c)
 
-  -- "(version 5: hash_id, mtu; below: raw hash)"; "with rejected_params ["hash_id"]; otherwise .. of size 0"
+  -- "(version 5: hashId, mtu; below: raw hash)"; "with rejectedParams ["hashId"]; otherwise .. of size 0"
   abbrev pub meant_in : Act → Option Meant
   meant_in (Refuse n) = none
   meant_in (Drop n) = none

@@ -56,7 +56,7 @@ first_message_id = record { 0 = 1 }
 abbrev pub old_ack : ℕ → SessionId → ℕ → List ℕ
 old_ack major session hash = reply_bytes (min major 4) rpc start_ack session first_message_id (bytes_be 4 hash)
 
--- "the ACK has header version 5 and a payload of hash_id (int32), mtu (int64), protocol_version (string)"
+-- "the ACK has header version 5 and a payload of hashId (int32), mtu (int64), protocolVersion (string)"
 abbrev pub new_ack : SessionId → ℕ → ℕ → Version → List ℕ
 new_ack session hash mtu v = reply_bytes 5 rpc start_ack session first_message_id (ack_payload hash mtu v)
 
@@ -64,6 +64,6 @@ new_ack session hash mtu v = reply_bytes 5 rpc start_ack session first_message_i
 abbrev pub opening_nak : ℕ → List ℕ → List ℕ
 opening_nak major payload = reply_bytes (min major 4) rpc start_nak no_session_id no_message_id payload
 
--- a service's ACK: "(version 5: hash_id, mtu; below: raw hash)"
+-- a service's ACK: "(version 5: hashId, mtu; below: raw hash)"
 unfoldable pub granted_payload : ℕ → ℕ → ℕ → List ℕ
 granted_payload version hash mtu = pick (eqb version 5) (service_ack_payload hash mtu) (bytes_be 4 hash)
