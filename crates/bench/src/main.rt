@@ -5,7 +5,7 @@
 
 ghost use Rattle.std.specs.Prelude.{◌+◌, ◌≤◌, min, ◌≡◌, true, false, ◌++◌, length, take};
 ghost use Rattle.benchline.specs.Line.{new_state, left, line_of, most_text};
-ghost use Rattle.bench.specs.Pieces.{state_size, pool_size, out_size, IsText, size_of, most_kept, run_of, waiting_before, written, Flushed, after_lines, lines_in, kept_after, after_read, last_of};
+ghost use Rattle.bench.specs.Pieces.{state_size, pool_size, out_size, IsText, size_of, most_kept, run_of, waiting_before, written, Flushed, Passed, after_lines, lines_in, kept_after, after_read, last_of};
 
 use benchline::{Output, Turn};
 use std::io::{Read, Write};
@@ -48,6 +48,7 @@ fn past(at: usize, count: usize, last: usize) -> usize
 fn flush<W: Write>(mut state: State, texts: &[u8], output: &mut W) -> State
     ensures waiting_value { (result.waiting ≡ 0) × ((result.filled ≡ state.filled) × (result.lines ≡ state.lines)) }
     ensures flushed { Flushed state result }
+    ensures passed { Passed state result texts.now (W.contents output.old) (W.contents output.new) }
 {
     if state.taken {
         state.taken = streams::write_all(output, text::front(texts, state.waiting));

@@ -1,5 +1,6 @@
 // Bytes from a reader and to a writer, as the programs move them. It assumes nothing.
-// A read that failed brought nothing, as at the end of the input; a write that failed took nothing. A call that a signal interrupts before it moves a byte is one that failed.
+// A read that failed brought nothing, as at the end of the input; a write that failed took nothing. A call that a signal interrupts before it moves a
+// byte is one that failed.
 #![tactic(auto)]
 
 ghost use Rattle.std.specs.Prelude.{◌≡◌, ◌≤◌, ℕ, true, length, take};
@@ -18,7 +19,7 @@ pub fn read<R: Read>(reader: &mut R, piece: &mut [u8]) -> usize
     }
 }
 
-// Reads until `buffer` is full, the input ends or a read fails. Answers how many bytes it put at the front of it. On no bytes it makes no call.
+// Reads until `buffer` is full, the input ends or a read fails. Answers how many bytes it put at the front of it. A buffer of no bytes makes no call.
 pub fn read_full<R: Read>(reader: &mut R, buffer: &mut [u8]) -> usize
     ensures in_bounds { result ≤ length buffer.new }
     ensures bytes { Consumes (R.remaining reader.old) (R.remaining reader.new) (take result buffer.new) }
@@ -40,7 +41,7 @@ fn write<W: Write>(writer: &mut W, bytes: &[u8]) -> usize
     ensures bytes { Appends (W.contents writer.old) (W.contents writer.new) (take result bytes.now) }
 {
     match writer.write(bytes) {
-        Ok(count) => count,
+        Ok(taken) => taken,
         Err(_) => 0,
     }
 }
