@@ -2,7 +2,8 @@
 -- Assumes nothing.
 use Rattle.std.specs.Prelude.{ℕ, ◌+◌, ◌-◌, min, Bool, true, false, ◌&&◌, List, length, take, ◌==◌, nat_lt}
 use Rattle.numbers.specs.Bytes.{pick, part}
-use Rattle.text.specs.Pieces.{fitting, put_into, index_of}
+use Rattle.lines.specs.Place.{index_of}
+use Rattle.text.specs.Pieces.{fitting, put_into}
 use Rattle.std.proofs.Math.Seq.{slice}
 use Rattle.words.specs.Lines.{Left, command_of}
 use Rattle.driver.specs.declared.Input.{Input}

@@ -71,7 +71,7 @@ fn take_part(mut input: Input, piece: &[u8], line: &mut [u8]) -> Input
     ensures { gathered result line.new ≡ part_taken input piece.now line.old }
 {
     let at = numbers::least(input.at, piece.len());
-    let end = text::find(piece, at, piece.len(), b'\n');
+    let end = lines::find(piece, at, piece.len(), b'\n');
     input.filled = text::put(line, input.filled, &piece[at..end]);
     input.at = text::past(end, piece.len());
     input.ended = end < piece.len();
