@@ -1,6 +1,8 @@
 -- The program over a piece of its input: the lines that end in it, what they leave, and what is kept of the line that goes on in the next piece.
 -- What the system reads and writes is in no contract of the kit: of that the definitions say nothing. Assumes nothing.
 use Rattle.std.specs.Prelude.{ℕ, ◌+◌, ◌-◌, ◌≡◌, true, false, ◌&&◌, List, [], ◌∷◌, ◌++◌, eqb, leb, length, take, drop}
+use Rattle.std.specs.declared.option.Option.{Option}
+use Rattle.std.specs.Io.KnownBytes.{Keeps, Appends}
 use Rattle.numbers.specs.Bytes.{pick}
 use Rattle.benchline.specs.declared.Output.{Output}
 use Rattle.benchline.specs.declared.Output.TheVariants.{Text, Full}
@@ -53,6 +55,14 @@ abbrev pub Flushed : State → State → Type 0
 Flushed s r =
     (s.taken ≡ false → (r.taken ≡ false) × (r.more ≡ s.more))
     × (s.taken ≡ true → r.more ≡ s.more && r.taken)
+
+-- what the writer holds then, where that is known: the texts that waited behind what it held, all of them where none of the writes failed, else so many
+-- characters at their front
+abbrev pub Passed : State → State → List ℕ → Option (List ℕ) → Option (List ℕ) → Type 0
+Passed s r texts old new =
+    (s.taken ≡ false → Keeps old new)
+    × (s.taken ≡ true → r.taken ≡ true → Appends old new (take s.waiting texts))
+    × (s.taken ≡ true → (n : ℕ) × Appends old new (take n (take s.waiting texts)))
 
 -- texts wait as long as the longest one fits behind them; else they are written first
 abbrev pub waiting_before : List ℕ → List ℕ → ℕ → ℕ

@@ -5,10 +5,10 @@
 
 ghost use Rattle.std.specs.Prelude.{◌+◌, ◌≤◌, min, ◌≡◌, true, false, ◌++◌, length, take};
 ghost use Rattle.benchline.specs.Line.{new_state, left, line_of, most_text};
-ghost use Rattle.bench.specs.Pieces.{state_size, pool_size, out_size, IsText, size_of, most_kept, run_of, waiting_before, written, Flushed, after_lines, lines_in, kept_after, after_read, last_of};
+ghost use Rattle.bench.specs.Pieces.{state_size, pool_size, out_size, IsText, size_of, most_kept, run_of, waiting_before, written, Flushed, Passed, after_lines, lines_in, kept_after, after_read, last_of};
 
 use benchline::{Output, Turn};
-use libc::{STDIN_FILENO, STDOUT_FILENO};
+use std::io::{Read, Write};
 
 // A line of 3,000 digits, and one more to tell a longer one.
 const LINE: usize = 3001;
@@ -45,12 +45,13 @@ fn past(at: usize, count: usize, last: usize) -> usize
 }
 
 // Writes the waiting texts. After a write that failed nothing more is written or read.
-fn flush(mut state: State, texts: &[u8]) -> State
+fn flush<W: Write>(mut state: State, texts: &[u8], output: &mut W) -> State
     ensures waiting_value { (result.waiting ≡ 0) × ((result.filled ≡ state.filled) × (result.lines ≡ state.lines)) }
     ensures flushed { Flushed state result }
+    ensures passed { Passed state result texts.now (W.contents output.old) (W.contents output.new) }
 {
     if state.taken {
-        state.taken = io::write_all(STDOUT_FILENO, text::front(texts, state.waiting));
+        state.taken = streams::write_all(output, text::front(texts, state.waiting));
         state.more = state.more & state.taken;
     }
     state.waiting = 0;
@@ -58,7 +59,7 @@ fn flush(mut state: State, texts: &[u8]) -> State
 }
 
 // Texts wait as long as the longest one still fits behind them; so `benchline::line` never answers Full.
-fn made_room(state: State, out: &[u8], texts: &[u8]) -> State
+fn made_room<W: Write>(state: State, out: &[u8], texts: &[u8], output: &mut W) -> State
     requires { most_text out.now ≤ length texts.now }
     ensures waiting_value { (result.waiting ≡ waiting_before out.now texts.now state.waiting) × ((result.filled ≡ state.filled) × (result.lines ≡ state.lines)) }
     ensures waiting_in_bounds { most_text out.now + result.waiting ≤ length texts.now }
@@ -67,7 +68,7 @@ fn made_room(state: State, out: &[u8], texts: &[u8]) -> State
     if state.waiting <= texts.len() - most {
         return state;
     }
-    flush(state, texts)
+    flush(state, texts, output)
 }
 
 // The answer to a line, where the longest text fits: a text.
@@ -126,7 +127,7 @@ fn answered(mut state: State, turn: Turn, texts: usize) -> State
 }
 
 // Answers the lines that end in a piece of the input. What stands behind the last newline waits in the line buffer.
-fn take_piece(
+fn take_piece<W: Write>(
     before: State,
     piece: &[u8],
     line: &mut [u8],
@@ -134,6 +135,7 @@ fn take_piece(
     pool: &mut [u8],
     out: &mut [u8],
     texts: &mut [u8],
+    output: &mut W,
 ) -> State
     requires { (most_text out.old ≤ length texts.old) × (most_kept ≤ length line.old) }
     ensures waiting_after { run_of result.lines link.new pool.new out.new texts.new result.waiting ≡ after_lines (run_of before.lines link.old pool.old out.old texts.old before.waiting) (lines_in (take before.filled line.old) piece.now) }
@@ -143,7 +145,7 @@ fn take_piece(
     let mut at: usize = 0;
     let mut end = lines::line_end(piece, 0);
     while end < piece.len() {
-        state = made_room(state, out, texts);
+        state = made_room(state, out, texts, output);
         let start = state.waiting;
         let part = &piece[at..end];
         let turn = answer_line(
@@ -165,7 +167,7 @@ fn take_piece(
 }
 
 // The texts are written before the next read, which may wait: whoever sends a line can wait for its answer.
-fn answer_piece(
+fn answer_piece<W: Write>(
     state: State,
     piece: &[u8],
     line: &mut [u8],
@@ -173,17 +175,18 @@ fn answer_piece(
     pool: &mut [u8],
     out: &mut [u8],
     texts: &mut [u8],
+    output: &mut W,
 ) -> State
     requires { (most_text out.old ≤ length texts.old) × (most_kept ≤ length line.old) }
     ensures waiting_after { run_of result.lines link.new pool.new out.new texts.new result.waiting ≡ written (after_lines (run_of state.lines link.old pool.old out.old texts.old state.waiting) (lines_in (take state.filled line.old) piece.now)) }
     ensures line_after { take result.filled line.new ≡ take (length line.old) (kept_after (take state.filled line.old) piece.now) }
 {
-    let after = take_piece(state, piece, line, link, pool, out, texts);
-    flush(after, texts)
+    let after = take_piece(state, piece, line, link, pool, out, texts, output);
+    flush(after, texts, output)
 }
 
 // What a read brought: no bytes are the end of the input.
-fn take_read(
+fn take_read<W: Write>(
     mut state: State,
     piece: &[u8],
     line: &mut [u8],
@@ -191,6 +194,7 @@ fn take_read(
     pool: &mut [u8],
     out: &mut [u8],
     texts: &mut [u8],
+    output: &mut W,
 ) -> State
     requires { (most_text out.old ≤ length texts.old) × (most_kept ≤ length line.old) }
     ensures waiting_after { run_of result.lines link.new pool.new out.new texts.new result.waiting ≡ after_read (run_of state.lines link.old pool.old out.old texts.old state.waiting) (take state.filled line.old) piece.now }
@@ -201,11 +205,11 @@ fn take_read(
         state.more = false;
         return state;
     }
-    answer_piece(state, piece, line, link, pool, out, texts)
+    answer_piece(state, piece, line, link, pool, out, texts, output)
 }
 
 // Reads once.
-fn read_piece(
+fn read_piece<R: Read, W: Write>(
     state: State,
     piece: &mut [u8],
     line: &mut [u8],
@@ -213,22 +217,24 @@ fn read_piece(
     pool: &mut [u8],
     out: &mut [u8],
     texts: &mut [u8],
+    input: &mut R,
+    output: &mut W,
 ) -> State
     requires { (most_text out.old ≤ length texts.old) × (most_kept ≤ length line.old) }
 {
-    let got = libc::read(STDIN_FILENO, piece);
-    let count = io::count(got, piece);
-    take_read(state, &piece[..count], line, link, pool, out, texts)
+    let count = streams::read(input, piece);
+    take_read(state, &piece[..count], line, link, pool, out, texts, output)
 }
 
 // The last line may lack its newline; an empty one is none.
-fn end_input(
+fn end_input<W: Write>(
     state: State,
     line: &[u8],
     link: &mut [u8],
     pool: &mut [u8],
     out: &mut [u8],
     texts: &mut [u8],
+    output: &mut W,
 ) -> State
     requires { most_text out.old ≤ length texts.old }
     ensures { run_of result.lines link.new pool.new out.new texts.new result.waiting ≡ last_of (run_of state.lines link.old pool.old out.old texts.old state.waiting) state.filled line.now }
@@ -236,7 +242,7 @@ fn end_input(
     if state.filled == 0 {
         return state;
     }
-    let ready = made_room(state, out, texts);
+    let ready = made_room(state, out, texts, output);
     let start = ready.waiting;
     let last = text::front(line, ready.filled);
     let turn = answer(ready.lines, last, link, pool, out, &mut texts[start..]);
@@ -259,13 +265,15 @@ fn begin(link: &mut [u8]) -> State
 }
 
 // A proved loop has to end, and nothing says that the input does. So the turns are counted down, from a number that no run uses up.
-fn serve(
+fn serve<R: Read, W: Write>(
     piece: &mut [u8],
     line: &mut [u8],
     link: &mut [u8],
     pool: &mut [u8],
     out: &mut [u8],
     texts: &mut [u8],
+    input: &mut R,
+    output: &mut W,
 )
     requires link_len { (length link.old ≡ state_size) × ((length pool.old ≡ pool_size) × (length out.old ≡ out_size)) }
     requires out_in_bounds { (most_text out.old ≤ length texts.old) × (most_kept ≤ length line.old) }
@@ -273,14 +281,16 @@ fn serve(
     let mut state = begin(link);
     let mut turns = u64::MAX;
     while turns > 0 && state.more {
-        state = read_piece(state, piece, line, link, pool, out, texts);
+        state = read_piece(state, piece, line, link, pool, out, texts, input, output);
         turns -= 1;
     }
-    let last = end_input(state, line, link, pool, out, texts);
-    flush(last, texts);
+    let last = end_input(state, line, link, pool, out, texts, output);
+    flush(last, texts, output);
 }
 
-fn main() {
+fn main(rt: HostRuntime) {
+    let mut input = rt.stdin();
+    let mut output = rt.stdout();
     let mut piece = [0u8; 65536];
     let mut line = [0u8; LINE];
     let mut link = [0u8; state::LENGTH];
@@ -288,6 +298,13 @@ fn main() {
     let mut out = [0u8; OUT];
     let mut texts = [0u8; TEXTS];
     serve(
-        &mut piece, &mut line, &mut link, &mut pool, &mut out, &mut texts,
+        &mut piece,
+        &mut line,
+        &mut link,
+        &mut pool,
+        &mut out,
+        &mut texts,
+        &mut input,
+        &mut output,
     );
 }

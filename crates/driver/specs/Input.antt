@@ -1,9 +1,10 @@
 -- How lines are gathered from the pieces of the input. What the system reads is in no contract of the kit: of that the definitions say nothing.
 -- Assumes nothing.
 use Rattle.std.specs.Prelude.{ℕ, ◌+◌, ◌-◌, min, Bool, true, false, ◌&&◌, List, length, take, ◌==◌, nat_lt}
-use Rattle.bytes.specs.Bytes.{index_of, slice}
 use Rattle.numbers.specs.Bytes.{pick, part}
+use Rattle.lines.specs.Place.{index_of}
 use Rattle.text.specs.Pieces.{fitting, put_into}
+use Rattle.std.proofs.Math.Seq.{slice}
 use Rattle.words.specs.Lines.{Left, command_of}
 use Rattle.driver.specs.declared.Input.{Input}
 

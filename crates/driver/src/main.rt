@@ -9,15 +9,16 @@ mod messages;
 mod output;
 mod sessions;
 
-ghost use Rattle.std.specs.Prelude.{◌≡◌};
+ghost use Rattle.std.specs.Prelude.{◌≡◌, take};
+ghost use Rattle.std.specs.Io.KnownBytes.{Consumes};
 ghost use Rattle.words.specs.Lines.{leaving};
 ghost use Rattle.driver.specs.Turns.{left, turn_of};
 ghost use Rattle.driver.specs.Input.{gathered, part_taken, begun_of, no_input, read_into, step_of, line_length, spoken_line, after_write};
 
 use calls::Turn;
-use libc::STDIN_FILENO;
 use output::{CONTENT, ROOM};
 use state::LENGTH;
+use std::io::Read;
 use words::Command;
 
 // A line of 300,000 bytes, and one byte more to tell a longer one.
@@ -27,7 +28,7 @@ const LINE: usize = 300001;
 const PIECE: usize = 65536;
 
 // What is at hand of the input.
-#[derive(Drop)]
+#[derive(Clone, Copy)]
 struct Input {
     // so many bytes of the piece were read, and so many of them are taken
     count: usize,
@@ -40,6 +41,10 @@ struct Input {
     more: bool,
 }
 
+fn piece_buffer() -> [u8; PIECE] {
+    [0; PIECE]
+}
+
 fn line_buffer() -> [u8; LINE] {
     [0; LINE]
 }
@@ -49,11 +54,11 @@ fn content_buffer() -> [u8; CONTENT] {
 }
 
 // Reads once. The last line may lack its newline: it is whole where the input ends.
-fn read_piece(mut input: Input, piece: &mut [u8]) -> Input
-    ensures { result ≡ read_into input result.count }
+fn read_piece<R: Read>(mut input: Input, piece: &mut [u8], reader: &mut R) -> Input
+    ensures input_after { result ≡ read_into input result.count }
+    ensures bytes { Consumes (R.remaining reader.old) (R.remaining reader.new) (take result.count piece.new) }
 {
-    let got = libc::read(STDIN_FILENO, piece);
-    let count = io::count(got, piece);
+    let count = streams::read(reader, piece);
     input.count = count;
     input.at = 0;
     input.ended = count == 0;
@@ -66,7 +71,7 @@ fn take_part(mut input: Input, piece: &[u8], line: &mut [u8]) -> Input
     ensures { gathered result line.new ≡ part_taken input piece.now line.old }
 {
     let at = numbers::least(input.at, piece.len());
-    let end = bytes::scan::find(piece, at, piece.len(), b'\n');
+    let end = lines::find(piece, at, piece.len(), b'\n');
     input.filled = text::put(line, input.filled, &piece[at..end]);
     input.at = text::past(end, piece.len());
     input.ended = end < piece.len();
@@ -84,13 +89,18 @@ fn begun(mut input: Input) -> Input
 }
 
 // One step on: a part of a line from the piece, or another piece.
-fn step(input: Input, piece: &mut [u8; PIECE], line: &mut [u8; LINE]) -> Input
+fn step<R: Read>(
+    input: Input,
+    piece: &mut [u8; PIECE],
+    line: &mut [u8; LINE],
+    reader: &mut R,
+) -> Input
     ensures { gathered result line.new ≡ step_of input piece.old line.old result.count }
 {
     if input.at < input.count {
         return take_part(input, text::front(piece, input.count), line);
     }
-    read_piece(input, piece)
+    read_piece(input, piece, reader)
 }
 
 // How much of the line buffer is a line: nothing while it is not whole. Of a line that is too long only the first byte is left, which is no command.
@@ -158,18 +168,20 @@ fn after_write(mut input: Input, taken: bool) -> Input
 }
 
 // A proved loop has to end, and nothing says that the input does. So the turns are counted down, from a number that no run uses up.
-fn main() {
-    let mut piece = io::large_buffer();
+fn main(rt: HostRuntime) {
+    let mut reader = rt.stdin();
+    let mut writer = rt.stdout();
+    let mut piece = piece_buffer();
     let mut line = line_buffer();
     let mut content = content_buffer();
     let mut link = [0u8; LENGTH];
-    let mut pool = io::large_buffer();
+    let mut pool = piece_buffer();
     let mut answer = output::line_buffer();
     let mut input = begin();
     let mut turn = calls::no_turn();
     let mut turns = u64::MAX;
     while turns > 0 && input.more {
-        input = step(begun(input), &mut piece, &mut line);
+        input = step(begun(input), &mut piece, &mut line, &mut reader);
         let command = command_of(input, &line, &mut content);
         turn = obey(
             turn.linked,
@@ -179,7 +191,7 @@ fn main() {
             &mut pool,
             &mut answer,
         );
-        let taken = output::write(&answer, turn.count);
+        let taken = output::write(&answer, turn.count, &mut writer);
         input = after_write(input, taken);
         turns -= 1;
     }

@@ -1,14 +1,15 @@
 // The out buffer that is lent to a call, and the line that an answer makes. It assumes nothing.
-ghost use Rattle.std.specs.Prelude.{◌≡◌, ◌+◌, ◌*◌, ◌≤◌, [], length, take};
+ghost use Rattle.std.specs.Prelude.{◌≡◌, ℕ, ◌+◌, ◌*◌, ◌≤◌, true, [], length, take};
+ghost use Rattle.std.specs.Io.KnownBytes.{Appends};
 ghost use Rattle.lines.specs.Hex.{hex_of};
 ghost use Rattle.payload.specs.Append.{Appended};
 ghost use Rattle.text.specs.Said.{said};
 ghost use Rattle.driver.specs.Spelling.{text_line, word_text, parts_behind};
 ghost use Rattle.driver.specs.Answers.{untouched_out};
 
-use libc::STDOUT_FILENO;
 use lines::Encoded;
 use rpc::Parts;
+use std::io::Write;
 use text::Text;
 
 // The longest out buffer.
@@ -88,6 +89,9 @@ pub fn lay_parts(answer: Text, payload: &[u8], parts: Parts, line: &mut [u8; ROO
 }
 
 // Writes a line of so many characters. Answers whether all of it was taken.
-pub fn write(line: &[u8; ROOM], count: usize) -> bool {
-    io::write_all(STDOUT_FILENO, text::front(line, count))
+pub fn write<W: Write>(line: &[u8; ROOM], count: usize, writer: &mut W) -> bool
+    ensures all { result ≡ true → Appends (W.contents writer.old) (W.contents writer.new) (take count line.now) }
+    ensures front { (n : ℕ) × Appends (W.contents writer.old) (W.contents writer.new) (take n (take count line.now)) }
+{
+    streams::write_all(writer, text::front(line, count))
 }

@@ -5,14 +5,15 @@
 // It writes how many calls were accepted. It assumes nothing of the input: what is missing is left out.
 #![tactic(auto)]
 
-ghost use Rattle.std.specs.Prelude.{◌≡◌};
+ghost use Rattle.std.specs.Prelude.{◌≡◌, ℕ, take};
+ghost use Rattle.std.specs.Io.KnownBytes.{Appends};
 ghost use Rattle.text.specs.Said.{said};
 ghost use Rattle.link.specs.Values.{values_of, accepted};
 ghost use Rattle.pace.specs.Pace.{counted_of, offered, behind_of, next_of, places_in, left as left_by, run_from, beginning, script_of, line_of, answer_of};
 
-use libc::{STDIN_FILENO, STDOUT_FILENO};
 use link::{Answer, Grant};
 use payload::version::Version;
+use std::io::Write;
 use text::Text;
 
 // The script's longest length.
@@ -159,13 +160,16 @@ fn answer(script: &[u8]) -> Text
     spell(serve(script, &mut link, &mut pool, &mut out))
 }
 
-fn report(text: Text) {
+// Writes a text: what is taken of it stands at its front.
+fn report<W: Write>(text: Text, output: &mut W)
+    ensures { (n : ℕ) × Appends (W.contents output.old) (W.contents output.new) (take n (said text)) }
+{
     let chars = text.chars;
-    io::write_all(STDOUT_FILENO, text::front(&chars, text.end));
+    streams::write_all(output, text::front(&chars, text.end));
 }
 
-fn main() {
+fn main(rt: HostRuntime) {
     let mut script = [0u8; LONGEST];
-    let count = io::read_full(STDIN_FILENO, &mut script);
-    report(answer(&script[..count]));
+    let count = streams::read_full(&mut rt.stdin(), &mut script);
+    report(answer(&script[..count]), &mut rt.stdout());
 }

@@ -113,16 +113,16 @@ fn key_is(key: &[u8], name: &[u8]) -> bool
 fn tag_of(key: &[u8]) -> Tag
     ensures { result ≡ tag_of key.now }
 {
-    if key_is(key, b"protocol_version") {
+    if key_is(key, b"protocolVersion") {
         return Tag::ProtocolVersion;
     }
-    if key_is(key, b"hash_id") {
+    if key_is(key, b"hashId") {
         return Tag::HashId;
     }
     if key_is(key, b"mtu") {
         return Tag::Mtu;
     }
-    if key_is(key, b"rejected_params") {
+    if key_is(key, b"rejectedParams") {
         return Tag::RejectedParams;
     }
     Tag::Unknown

@@ -86,7 +86,7 @@ fn put_grant(hash: u32, mtu: u64, at: usize, out: &mut [u8]) -> usize
     requires { at + 25 ≤ length out.old }
     ensures { Appended at (grant_elements hash mtu) out.old result out.new }
 {
-    let next = put_int32(b"hash_id", hash, at, out);
+    let next = put_int32(b"hashId", hash, at, out);
     put_int64(b"mtu", mtu, next, out)
 }
 
@@ -97,7 +97,7 @@ fn put_version(version: Version, at: usize, out: &mut [u8]) -> usize
 {
     let mut text = [0u8; 11];
     let end = version::put(version, 0, &mut text);
-    put_string(b"protocol_version", &text[0..end], at, out)
+    put_string(b"protocolVersion", &text[0..end], at, out)
 }
 
 // The payload of the opening's ACK in version 5: hash_id, mtu, protocol_version. No string says a major of 0.
@@ -137,7 +137,7 @@ fn put_rejected(name: &[u8], at: usize, out: &mut [u8]) -> usize
     requires { (at + (length name.now + 29) ≤ length out.old) × (length name.now ≤ 1024) }
     ensures { Appended at (rejected_element name.now) out.old result out.new }
 {
-    let inner = put_head(ARRAY, b"rejected_params", at, out);
+    let inner = put_head(ARRAY, b"rejectedParams", at, out);
     let first = put_four(name.len() as u32 + NAMES, inner, out);
     let last = put_string(b"0", name, first, out);
     put_byte(0, last, out)
@@ -163,7 +163,7 @@ pub fn write_nak(parameter: Parameter, out: &mut [u8]) -> Written
     ensures { wrote result out.new ≡ put_of (nak_payload (name_of parameter)) out.old }
 {
     match parameter {
-        Parameter::ProtocolVersion => write_rejected(b"protocol_version", out),
-        Parameter::HashId => write_rejected(b"hash_id", out),
+        Parameter::ProtocolVersion => write_rejected(b"protocolVersion", out),
+        Parameter::HashId => write_rejected(b"hashId", out),
     }
 }
