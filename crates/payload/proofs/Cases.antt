@@ -1,7 +1,7 @@
 -- Version strings, what they say and which are written, by computation: document 01's marked ones among them. Assumes nothing.
 use mathlib.Core.Path.{◌≡◌, refl}
 use mathlib.Core.List.{[], ◌∷◌, map}
-use Rattle.bytes.specs.Bytes.{index_of, index_after}
+use Rattle.lines.specs.Place.{index_of}
 use Rattle.lines.specs.Decimal.{value_from, value_of, number_of, digits_by, decimal_of}
 use Rattle.payload.specs.Append.{wrote}
 use Rattle.payload.specs.Version.{version, part_of, version_from, version_of, version_text, write_version_of}
@@ -18,7 +18,7 @@ readings :
     ∷ (53 ∷ 46 ∷ 46 ∷ 49 ∷ []) ∷ (48 ∷ 48 ∷ 46 ∷ 48 ∷ 46 ∷ 48 ∷ []) ∷ (53 ∷ 46 ∷ 52 ∷ 46 ∷ 120 ∷ []) ∷ [])
     ≡ Good (version 5 4 1) ∷ Good (version 5 0 0) ∷ Good (version 255 255 255)
     ∷ Bad ∷ Bad ∷ Bad ∷ Bad ∷ Bad ∷ Bad ∷ Bad ∷ Bad ∷ Bad ∷ []
-unfolding index_of index_after value_from value_of number_of part_of version_from version_of
+unfolding index_of value_from value_of number_of part_of version_from version_of
 readings = refl
 
 -- "0.4.1" is not written, with room and without; "5.4.1" needs five bytes

@@ -9,7 +9,7 @@ use lib.Dec.{eqb, leb}
 use lib.ListN.{length, take, drop, get_or, length-append}
 use lib.Seq.{take_at, drop_at, drop-drop, get_or_at, get_or-drop, take-append-add, append_snoc}
 use borrow.Author.Tests.{le-leb, leb-true, lt-ltb, eq-eqb, ne_eqb, not-true}
-use Rattle.bytes.specs.Bytes.{index_of, index_after, slice}
+use Rattle.lines.specs.Place.{index_of}
 use Rattle.lines.proofs.Turns.{both}
 use Rattle.numbers.specs.Bytes.{part, laid}
 use Rattle.numbers.specs.Numbers.{value_le, bytes_le}
@@ -44,7 +44,7 @@ no_zero [] = true
 no_zero (b ∷ key) = not (eqb b 0) && no_zero key
 
 key_end : (key after : List ℕ) → no_zero key ≡ true → index_of 0 (key ++ 0 ∷ after) ≡ length key
-unfolding index_of index_after
+unfolding index_of
 key_end [] after e = refl
 key_end (b ∷ key) after e =
     let z = both (not (eqb b 0)) (no_zero key) e in
@@ -83,7 +83,6 @@ module _ {before key after s : List ℕ} {kind at n end : ℕ} (w : Stands befor
       rw (w.is, l, ← append_assoc before (element_head kind key) after, take-append-add (before ++ element_head kind key) after n, append_assoc)
 
   stop_here : key_stop s at end ≡ at + 1 + length key
-  unfolding slice
   stop_here = rw (taken, past_type (take n after), key_end key (take n after) w.free)
 
   key_is : part s (at + 1) (at + 1 + length key - (at + 1)) ≡ key
@@ -176,7 +175,7 @@ module _ (e : List ℕ) (small : length e + 5 ≤ 1024) where
     free = f;
   }
 
--- what the ACKs share: hash_id and mtu, and then any elements
+-- what the ACKs share: hashId and mtu, and then any elements
 module _ (h m : ℕ) (rest : List ℕ) (hash32 : h < 2 ^ 32) (mtu64 : m < 2 ^ 64) (small : length (grant_elements h m ++ rest) + 5 ≤ 1024) where
   abbrev all : List ℕ
   all = grant_elements h m ++ rest
@@ -275,9 +274,9 @@ module _ (h m : ℕ) (v : Version) (hash32 : h < 2 ^ 32) (mtu64 : m < 2 ^ 64) (m
   pub ack_version : 1 ≤ v.major → version_of (part (ack_payload h m v) 50 (length (version_text v))) ≡ Good v
   ack_version one = ap version_of ack_text ∙ written_read v one major8 minor8 patch8
 
--- a NAK says where rejected_params stands, and nothing else; there stands the array of its name
+-- a NAK says where rejectedParams stands, and nothing else; there stands the array of its name
 pub nak_read : (p : Parameter) → payload_of (nak_payload (name_of p)) ≡ Accepted (nak_tags (name_of p))
-unfolding tag_of index_of index_after slice value_le bytes_le element_head document string_element array_element rejected_element nak_payload fixed_of boolean_of string_of plain_of head_of element_of elements document_of payload_of
+unfolding tag_of index_of value_le bytes_le element_head document string_element array_element rejected_element nak_payload fixed_of boolean_of string_of plain_of head_of element_of elements document_of payload_of
 nak_read parameter.ProtocolVersion = refl
 nak_read parameter.HashId = refl
 

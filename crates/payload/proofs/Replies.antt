@@ -17,7 +17,7 @@ use Rattle.payload.specs.declared.version.Version.{Version}
 use Rattle.payload.proofs.Appends.{then_put, renamed}
 use Rattle.payload.proofs.Versions.{version_most}
 
--- "Payload for "5.4.1": `20 00 00 00 02`, "protocol_version" and 0, `06 00 00 00`, "5.4.1", two zeros: 32 bytes."; the ACK's payload with it, for
+-- "Payload for "5.4.1": `20 00 00 00 02`, "protocolVersion" and 0, `06 00 00 00`, "5.4.1", two zeros: 32 bytes."; the ACK's payload with it, for
 -- the bench's hash 39,027 and mtu 131,084; the two payloads of a NAK
 payloads :
     document (string_element protocol_version (version_text (version 5 4 1)))
@@ -68,7 +68,7 @@ module _ (key text : List ℕ) where
   unfolding string_element
   length_string = simp (length-append, length_le) (omega (arith, length_head 0x02 key))
 
--- hash_id and mtu
+-- hashId and mtu
 module _ (h m : ℕ) where
   pub length_grant : length (grant_elements h m) ≡ 25
   unfolding grant_elements
@@ -131,7 +131,7 @@ text_back {b} {o} {n = n} e =
     let z : n - 0 ≡ length b = omega arith in
     rw (z, e.puts) (take_at b (drop (0 + length b) o) (length b) refl)
 
--- "The ACK payload with it has 57; the NAK's 49", for every hash and mtu; the NAK of hash_id has 40, a service's ACK 30
+-- "The ACK payload with it has 57; the NAK's 49", for every hash and mtu; the NAK of hashId has 40, a service's ACK 30
 sizes : (h m : ℕ) → length (ack_payload h m (version 5 4 1)) ∷ length (nak_payload protocol_version) ∷ length (nak_payload hash_id) ∷ length (service_ack_payload h m) ∷ [] ≡ 57 ∷ 49 ∷ 40 ∷ 30 ∷ []
 unfolding digits_by decimal_of version_text
 sizes h m = rw (length_ack h m (version 5 4 1), length_nak protocol_version, length_nak hash_id, length_service_ack h m)

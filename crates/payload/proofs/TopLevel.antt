@@ -1,6 +1,6 @@
 -- "Only top-level tags count": a document inside another one leaves the tags as they were, and an element at the top adds its own tag
 -- and no other. So whatever holds of no tags and is kept by each top-level element holds of an accepted payload's tags (`tags_hold`).
--- From it: the version string and the array of rejected_params lie inside the slice, and the numbers have their 32 and 64 bits. Assumes nothing.
+-- From it: the version string and the array of rejectedParams lie inside the slice, and the numbers have their 32 and 64 bits. Assumes nothing.
 use Prim.Native.Nat.{ℕ, zero, suc, ◌+◌, ◌-◌, ◌^◌, ◌≤◌, ◌<◌}
 use mathlib.Core.Path.{◌≡◌, refl, sym, subst}
 use mathlib.Core.List.{List, [], ◌∷◌}
@@ -214,7 +214,7 @@ version_step s end t kind ProtocolVersion v x p = λ y.
 pub version_inside : (s : List ℕ) → AcceptedHolds (VersionInside s) (payload_of s)
 version_inside s = tags_hold s (VersionInside s) (version_step s) (λ y. let o : ◌≡◌ {A = ℕ} 0 1 = cc in absurd (omega arith))
 
--- an array of rejected_params that was found lies inside the slice, as a document with its length and its last 0
+-- an array of rejectedParams that was found lies inside the slice, as a document with its length and its last 0
 abbrev pub RejectedInside : List ℕ → Tags → Type 0
 RejectedInside s t = t.rejected.found ≡ true → (5 ≤ t.rejected.length) × (t.rejected.at + t.rejected.length ≤ length s)
 

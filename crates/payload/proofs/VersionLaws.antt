@@ -11,7 +11,7 @@ use lib.ListN.{length, get_or}
 use lib.Seq.{take_at, drop-append-add}
 use borrow.Author.Tests.{le-leb, eqb-true, eqb-false, ne_eqb}
 use Rattle.numbers.proofs.Choices.{split}
-use Rattle.bytes.specs.Bytes.{index_of, index_after}
+use Rattle.lines.specs.Place.{index_of}
 use Rattle.lines.specs.Text.{every}
 use Rattle.lines.specs.Decimal.{is_decimal, value_from, value_of, number_of, decimal_of}
 use Rattle.lines.proofs.Turns.{both}
@@ -29,7 +29,7 @@ first_digit b t e = let z = both (is_decimal b) (every is_decimal t) e in let y 
 
 -- a text of digits, then a dot: the dot is the first
 dot_past : (t r : List ℕ) → every is_decimal t ≡ true → index_of 46 (t ++ 46 ∷ r) ≡ length t
-unfolding index_of index_after
+unfolding index_of
 dot_past [] r e = refl
 dot_past (b ∷ t) r e =
     let z = first_digit b t e in
@@ -130,7 +130,7 @@ part_text t n h e =
 
 -- a text is what stands before its first dot, the dot and what follows it; or there is no dot and nothing follows
 dots : (t : List ℕ) → (after_dot t ≡ []) ⊎ (before_dot t ++ 46 ∷ after_dot t ≡ t)
-unfolding index_of index_after
+unfolding index_of
 dots [] = inl refl
 dots (b ∷ t) =
     split (eqb b 46)

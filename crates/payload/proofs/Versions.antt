@@ -12,7 +12,8 @@ use borrow.Rule.Slice.PartMut.{put_mid}
 use lib.ListN.{length, take, drop, length-append, length-drop, drop_of_length-le}
 use lib.Seq.{length-take-le, take-length}
 use Rattle.numbers.proofs.Choices.{and_both, split, unless_elim}
-use Rattle.bytes.specs.Bytes.{index_of, slice}
+use Rattle.std.proofs.Math.Seq.{slice}
+use Rattle.lines.specs.Place.{index_of}
 use Rattle.lines.specs.Text.{encoded, written_of}
 use Rattle.lines.specs.Decimal.{decimal_of}
 use Rattle.lines.specs.declared.Encoded.{Encoded}
@@ -30,7 +31,6 @@ use Rattle.payload.proofs.Appends.{part_put}
 -- the place of the first dot, found in the whole text
 module _ (text : List ℕ) (r : ℕ) (e : r ≡ 0 + index_of 46 (slice 0 (length text) text)) where
   place : r ≡ index_of 46 text
-  unfolding slice
   place =
       let t : take (length text) text ≡ text = take-length text in
       let z : index_of 46 (take (length text) text) ≡ index_of 46 text = rw t in

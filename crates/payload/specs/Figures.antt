@@ -1,6 +1,6 @@
 -- Control payloads and what they say: document 01's marked ones, and one or more for each refusal and each side of a limit.
 -- Proved in proofs/Figures, by computation. Assumes nothing.
-use Rattle.std.specs.Prelude.{ℕ, ◌+◌, true, false, List, [], ◌∷◌, ◌++◌, map, ◌≡◌, length}
+use Rattle.std.specs.Prelude.{ℕ, ◌+◌, true, List, [], ◌∷◌, ◌++◌, map, ◌≡◌, length}
 use Rattle.payload.specs.Tags.{protocol_version, hash_id, mtu, rejected_params, no_tags}
 use Rattle.payload.specs.Walk.{payload_of}
 use Rattle.payload.specs.declared.Tags.{Tags}
@@ -18,7 +18,7 @@ figure bytes says = record { bytes = bytes; says = says }
 abbrev text : List ℕ
 text = 0x35 ∷ 0x2E ∷ 0x34 ∷ 0x2E ∷ 0x31 ∷ []
 
--- the elements of the replies: hash_id 39,027, mtu 131,084, protocol_version "5.4.1"
+-- the elements of the replies: hashId 39,027, mtu 131,084, protocolVersion "5.4.1"
 abbrev hash_element : List ℕ
 hash_element = 0x10 ∷ (hash_id ++ (0 ∷ 0x73 ∷ 0x98 ∷ 0 ∷ 0 ∷ []))
 
@@ -28,7 +28,7 @@ mtu_element = 0x12 ∷ (mtu ++ (0 ∷ 0x0C ∷ 0 ∷ 0x02 ∷ 0 ∷ 0 ∷ 0 ∷ 
 abbrev version_element : List ℕ
 version_element = 0x02 ∷ (protocol_version ++ (0 ∷ 0x06 ∷ 0 ∷ 0 ∷ 0 ∷ (text ++ (0 ∷ []))))
 
--- "Payload for "5.4.1": `20 00 00 00 02`, "protocol_version" and 0, `06 00 00 00`, "5.4.1", two zeros: 32 bytes."
+-- "Payload for "5.4.1": `20 00 00 00 02`, "protocolVersion" and 0, `06 00 00 00`, "5.4.1", two zeros: 32 bytes."
 abbrev pub marked : List ℕ
 marked = 0x20 ∷ 0 ∷ 0 ∷ 0 ∷ 0x02 ∷ (protocol_version ++ (0 ∷ 0x06 ∷ 0 ∷ 0 ∷ 0 ∷ (text ++ (0 ∷ 0 ∷ []))))
 
@@ -36,7 +36,7 @@ marked = 0x20 ∷ 0 ∷ 0 ∷ 0 ∷ 0x02 ∷ (protocol_version ++ (0 ∷ 0x06 �
 abbrev pub ack : List ℕ
 ack = 0x39 ∷ 0 ∷ 0 ∷ 0 ∷ (hash_element ++ (mtu_element ++ (version_element ++ (0 ∷ []))))
 
--- "the NAK's 49": rejected_params, an array of one string, "protocol_version"
+-- "the NAK's 49": rejectedParams, an array of one string, "protocolVersion"
 abbrev pub nak : List ℕ
 nak = 0x31 ∷ 0 ∷ 0 ∷ 0 ∷ 0x04 ∷ (rejected_params ++ (0 ∷ 0x1C ∷ 0 ∷ 0 ∷ 0 ∷ 0x02 ∷ 0x30 ∷ 0 ∷ 0x10 ∷ 0 ∷ 0 ∷ 0 ∷ (protocol_version ++ (0 ∷ 0 ∷ 0 ∷ []))))
 

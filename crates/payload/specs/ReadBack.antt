@@ -60,7 +60,7 @@ pub record SaysNak (name s : List ℕ) : Type 0 where
 abbrev pub NakBack : Type 0
 NakBack = (p : Parameter) (out : List ℕ) → IfWritten (put_of (nak_payload (name_of p)) out) (SaysNak (name_of p))
 
--- what a caller gets of rejected_params: `read`, then `rejected_params`
+-- what a caller gets of rejectedParams: `read`, then `rejected_params`
 abbrev pub rejected_of : List ℕ → Payload → List ℕ
 rejected_of s (Accepted t) = rejected_in s t
 rejected_of s (Refused k) = []

@@ -1,6 +1,6 @@
 -- The control payloads that the module writes, in bsonspec.org's grammar; BSON's numbers are least significant first. Document 01: "We write only
 -- the reply payloads above." Assumes nothing.
-use Rattle.std.specs.Prelude.{ℕ, ◌+◌, ◌-◌, true, false, List, [], ◌∷◌, ◌++◌, length}
+use Rattle.std.specs.Prelude.{ℕ, ◌+◌, ◌-◌, true, List, [], ◌∷◌, ◌++◌, length}
 use Rattle.numbers.specs.Bytes.{part}
 use Rattle.numbers.specs.Numbers.{bytes_le}
 use Rattle.payload.specs.declared.Tags.{Tags}
@@ -39,11 +39,11 @@ string_element key text = element_head 0x02 key ++ (bytes_le 4 (length text + 1)
 unfoldable pub array_element : List ℕ → List ℕ → List ℕ
 array_element key elements = element_head 0x04 key ++ document elements
 
--- what an ACK grants: "hash_id (int32), mtu (int64)"
+-- what an ACK grants: "hashId (int32), mtu (int64)"
 unfoldable pub grant_elements : ℕ → ℕ → List ℕ
 grant_elements h m = int32_element hash_id h ++ int64_element mtu m
 
--- "rejected_params" with the one name
+-- "rejectedParams" with the one name
 unfoldable pub rejected_element : List ℕ → List ℕ
 rejected_element name = array_element rejected_params (string_element first_key name)
 
@@ -55,15 +55,15 @@ array_of name = document (string_element first_key name)
 abbrev pub name_in : List ℕ → List ℕ
 name_in array = part array 11 (length array - 13)
 
--- "a payload of hash_id (int32), mtu (int64), protocol_version (string), in this order"
+-- "a payload of hashId (int32), mtu (int64), protocolVersion (string), in this order"
 unfoldable pub ack_payload : ℕ → ℕ → Version → List ℕ
 ack_payload h m v = document (grant_elements h m ++ string_element protocol_version (version_text v))
 
--- a service's ACK: "version 5: hash_id, mtu"
+-- a service's ACK: "version 5: hashId, mtu"
 unfoldable pub service_ack_payload : ℕ → ℕ → List ℕ
 service_ack_payload h m = document (grant_elements h m)
 
--- a NAK "with rejected_params" and the name given
+-- a NAK "with rejectedParams" and the name given
 unfoldable pub nak_payload : List ℕ → List ℕ
 nak_payload name = document (rejected_element name)
 
@@ -71,12 +71,12 @@ nak_payload name = document (rejected_element name)
 abbrev pub write_ack_of : ℕ → ℕ → Version → List ℕ → Wrote
 write_ack_of h m v out = saying_of v (ack_payload h m v) out
 
--- the names: ["protocol_version"] and ["hash_id"]
+-- the names: ["protocolVersion"] and ["hashId"]
 abbrev pub name_of : Parameter → List ℕ
 name_of ProtocolVersion = protocol_version
 name_of HashId = hash_id
 
--- what the reader finds in each of them; the string's place is the one behind hash_id, mtu and its own head, the array's the one behind its head
+-- what the reader finds in each of them; the string's place is the one behind hashId, mtu and its own head, the array's the one behind its head
 abbrev pub grant_tags : ℕ → ℕ → Tags
 grant_tags h m = record { version = no_tags.version; hash = record { found = true; value = h }; mtu = record { found = true; value = m }; rejected = no_tags.rejected }
 

@@ -1,5 +1,5 @@
 -- The known tags of a control payload, and what is found of them. Document 01, "Control payloads": "Known tags, in every
--- payload: protocol_version (02), hash_id (10), mtu (12), rejected_params (04). Others, height included, are unknown and are skipped".
+-- payload: protocolVersion (02), hashId (10), mtu (12), rejectedParams (04). Others, height included, are unknown and are skipped".
 -- Assumes nothing.
 use Rattle.std.specs.Prelude.{ℕ, ◌+◌, ◌-◌, Bool, true, false, not, ◌&&◌, ◌||◌, List, [], ◌∷◌, eqb}
 use Rattle.numbers.specs.Bytes.{part, pick}
@@ -19,11 +19,11 @@ same_bytes [] (y ∷ ys) = false
 same_bytes (x ∷ xs) [] = false
 same_bytes (x ∷ xs) (y ∷ ys) = eqb x y && same_bytes xs ys
 
--- "protocol_version", in ASCII
+-- "protocolVersion", in ASCII
 abbrev pub protocol_version : List ℕ
 protocol_version = 0x70 ∷ 0x72 ∷ 0x6F ∷ 0x74 ∷ 0x6F ∷ 0x63 ∷ 0x6F ∷ 0x6C ∷ 0x56 ∷ 0x65 ∷ 0x72 ∷ 0x73 ∷ 0x69 ∷ 0x6F ∷ 0x6E ∷ []
 
--- "hash_id"
+-- "hashId"
 abbrev pub hash_id : List ℕ
 hash_id = 0x68 ∷ 0x61 ∷ 0x73 ∷ 0x68 ∷ 0x49 ∷ 0x64 ∷ []
 
@@ -31,7 +31,7 @@ hash_id = 0x68 ∷ 0x61 ∷ 0x73 ∷ 0x68 ∷ 0x49 ∷ 0x64 ∷ []
 abbrev pub mtu : List ℕ
 mtu = 0x6D ∷ 0x74 ∷ 0x75 ∷ []
 
--- "rejected_params"
+-- "rejectedParams"
 abbrev pub rejected_params : List ℕ
 rejected_params = 0x72 ∷ 0x65 ∷ 0x6A ∷ 0x65 ∷ 0x63 ∷ 0x74 ∷ 0x65 ∷ 0x64 ∷ 0x50 ∷ 0x61 ∷ 0x72 ∷ 0x61 ∷ 0x6D ∷ 0x73 ∷ []
 
@@ -44,7 +44,7 @@ tag_of key =
     (pick (same_bytes key rejected_params) RejectedParams
     Unknown)))
 
--- "protocol_version (02), hash_id (10), mtu (12), rejected_params (04)": whether a tag may have this type; an unknown one may have any
+-- "protocolVersion (02), hashId (10), mtu (12), rejectedParams (04)": whether a tag may have this type; an unknown one may have any
 abbrev pub typed : Tag → ℕ → Bool
 typed Unknown kind = true
 typed ProtocolVersion kind = eqb kind 0x02
@@ -77,7 +77,7 @@ no_tags = record {
 abbrev pub string_at : List ℕ → ℕ → StringTag
 string_at s v = record { found = true; at = v + 4; length = value_le (part s v 4) - 1 }
 
--- "BSON numbers least significant first": a hash id as its 32 bits ("An int32 hash_id is the hash's same 32 bits."), an mtu as its 64 bits
+-- "BSON numbers least significant first": a hash id as its 32 bits ("An int32 hashId is the hash's same 32 bits."), an mtu as its 64 bits
 abbrev pub hash_at : List ℕ → ℕ → HashTag
 hash_at s v = record { found = true; value = value_le (part s v 4) }
 
@@ -96,6 +96,6 @@ with_tag s t HashId v = record { version = t.version; hash = hash_at s v; mtu = 
 with_tag s t Mtu v = record { version = t.version; hash = t.hash; mtu = mtu_at s v; rejected = t.rejected }
 with_tag s t RejectedParams v = record { version = t.version; hash = t.hash; mtu = t.mtu; rejected = array_at s v }
 
--- the array of rejected_params in the bytes that were read: its whole document; nothing where it was not found
+-- the array of rejectedParams in the bytes that were read: its whole document; nothing where it was not found
 abbrev pub rejected_in : List ℕ → Tags → List ℕ
 rejected_in s t = part s t.rejected.at t.rejected.length

@@ -1,7 +1,7 @@
 -- Version strings. Document 01, "Control payloads": "A version string is three decimal parts of value 0 to 255, no spare zeros, major at
 -- least 1." Assumes nothing.
 use Rattle.std.specs.Prelude.{ℕ, ◌+◌, min, Bool, not, ◌&&◌, ◌||◌, List, ◌∷◌, ◌++◌, eqb, leb, ltb, length, take, drop, get_or}
-use Rattle.bytes.specs.Bytes.{index_of}
+use Rattle.lines.specs.Place.{index_of}
 use Rattle.lines.specs.Decimal.{number_of, decimal_of}
 use Rattle.lines.specs.declared.Number.{Number}
 use Rattle.lines.specs.declared.Number.TheVariants.{Value, NotDecimal, TooLarge}
@@ -44,7 +44,7 @@ version_from a b c = unless (not (eqb a 0) && (leb a 255 && (leb b 255 && leb c 
 unfoldable pub version_of : List ℕ → VersionText
 version_of text = version_from (part_of (before_dot text)) (part_of (before_dot (after_dot text))) (part_of (after_dot (after_dot text)))
 
--- "protocol_version (string)": the string of a version, whatever its numbers; it is written only where it can be read (`write_version_of`)
+-- "protocolVersion (string)": the string of a version, whatever its numbers; it is written only where it can be read (`write_version_of`)
 unfoldable pub version_text : Version → List ℕ
 version_text v = decimal_of v.major ++ (46 ∷ (decimal_of v.minor ++ (46 ∷ decimal_of v.patch)))
 

@@ -4,7 +4,8 @@
 -- byte; a document's end is the place past its last byte.
 -- Assumes nothing.
 use Rattle.std.specs.Prelude.{ℕ, zero, suc, ◌+◌, ◌-◌, Bool, true, false, ◌&&◌, ◌||◌, List, leb, ltb, eqb, length, get_or}
-use Rattle.bytes.specs.Bytes.{index_of, slice}
+use Rattle.std.proofs.Math.Seq.{slice}
+use Rattle.lines.specs.Place.{index_of}
 use Rattle.numbers.specs.Bytes.{part, pick, unless}
 use Rattle.numbers.specs.Numbers.{value_le}
 use Rattle.payload.specs.Tags.{tag_of, clashes, with_tag, no_tags}

@@ -30,7 +30,7 @@ pub(crate) fn put_bytes(bytes: &[u8], at: usize, out: &mut [u8]) -> usize
     ensures { Appended at bytes.now out.old result out.new }
 {
     let end = at + bytes.len();
-    bytes::copy(bytes, &mut out[at..end]);
+    out[at..end].copy_from_slice(bytes);
     end
 }
 

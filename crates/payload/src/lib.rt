@@ -14,7 +14,6 @@ ghost use Rattle.payload.specs.Tags.{same_bytes, tag_of, found, clashes, no_tags
 ghost use Rattle.payload.specs.Walk.{read_type, nests, fixed_of, boolean_of, string_of, plain_of, tag_at, head_of, element_of, document_of, answer, payload_of};
 ghost use Rattle.payload.specs.Step.{plain_step, nested_step, stepped, StepIn};
 
-use bytes::scan;
 use check::same;
 
 // A string's place in the caller's slice, and its length without the final 0 byte that BSON counts. Not found: both 0.
@@ -50,12 +49,12 @@ pub struct ArrayTag {
 // The known tags of a payload.
 #[derive(Clone, Copy)]
 pub struct Tags {
-    // protocol_version
+    // protocolVersion
     pub version: StringTag,
-    // hash_id
+    // hashId
     pub hash: HashTag,
     pub mtu: MtuTag,
-    // rejected_params
+    // rejectedParams
     pub rejected: ArrayTag,
 }
 
@@ -364,7 +363,7 @@ fn front(top: bool, bytes: &[u8], at: usize, end: usize, tags: Tags) -> Head
         return Head::Bad(refusal::TYPE);
     }
     let key = at + 1;
-    let stop = scan::find(bytes, key, end, 0);
+    let stop = lines::find(bytes, key, end, 0);
     if end <= stop {
         return Head::Bad(refusal::MALFORMED);
     }
@@ -511,7 +510,7 @@ pub fn read(bytes: &[u8]) -> Payload
     }
 }
 
-// The array of rejected_params in the bytes that were read: its document. Nothing where there is none.
+// The array of rejectedParams in the bytes that were read: its document. Nothing where there is none.
 pub fn rejected_params(bytes: &[u8], tags: Tags) -> &[u8]
     ensures { result.now ≡ rejected_in bytes.now tags }
 {

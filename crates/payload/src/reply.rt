@@ -31,13 +31,13 @@ const INT64: u8 = 18;
 // What a document has besides its elements: 4 bytes of length and its last 0.
 const DOCUMENT: usize = 5;
 
-// The elements hash_id and mtu.
+// The elements hashId and mtu.
 const GRANT: usize = 25;
 
-// The element protocol_version, without the characters of its string.
+// The element protocolVersion, without the characters of its string.
 const VERSION: usize = 22;
 
-// The element rejected_params, and the document in it, without the characters of the name.
+// The element rejectedParams, and the document in it, without the characters of the name.
 const REJECTED: usize = 29;
 
 const NAMES: u32 = 13;
@@ -81,7 +81,7 @@ fn put_string(key: &[u8], text: &[u8], at: usize, out: &mut [u8]) -> usize
     put_byte(0, past, out)
 }
 
-// hash_id and mtu: what every ACK with a payload grants.
+// hashId and mtu: what every ACK with a payload grants.
 fn put_grant(hash: u32, mtu: u64, at: usize, out: &mut [u8]) -> usize
     requires { at + 25 ≤ length out.old }
     ensures { Appended at (grant_elements hash mtu) out.old result out.new }
@@ -90,7 +90,7 @@ fn put_grant(hash: u32, mtu: u64, at: usize, out: &mut [u8]) -> usize
     put_int64(b"mtu", mtu, next, out)
 }
 
-// protocol_version with a version's string.
+// protocolVersion with a version's string.
 fn put_version(version: Version, at: usize, out: &mut [u8]) -> usize
     requires { (at + (length (version_text version) + 22) ≤ length out.old) × (length (version_text version) ≤ 11) }
     ensures { Appended at (string_element protocol_version (version_text version)) out.old result out.new }
@@ -100,7 +100,7 @@ fn put_version(version: Version, at: usize, out: &mut [u8]) -> usize
     put_string(b"protocolVersion", &text[0..end], at, out)
 }
 
-// The payload of the opening's ACK in version 5: hash_id, mtu, protocol_version. No string says a major of 0.
+// The payload of the opening's ACK in version 5: hashId, mtu, protocolVersion. No string says a major of 0.
 pub fn write_ack(hash: u32, mtu: u64, version: Version, out: &mut [u8]) -> Written
     ensures { wrote result out.new ≡ write_ack_of hash mtu version out.old }
 {
@@ -118,7 +118,7 @@ pub fn write_ack(hash: u32, mtu: u64, version: Version, out: &mut [u8]) -> Writt
     Written::Bytes(end)
 }
 
-// The payload of a service's ACK in version 5: hash_id, mtu.
+// The payload of a service's ACK in version 5: hashId, mtu.
 pub fn write_service_ack(hash: u32, mtu: u64, out: &mut [u8]) -> Written
     ensures { wrote result out.new ≡ put_of (service_ack_payload hash mtu) out.old }
 {
@@ -132,7 +132,7 @@ pub fn write_service_ack(hash: u32, mtu: u64, out: &mut [u8]) -> Written
     Written::Bytes(end)
 }
 
-// rejected_params with one name.
+// rejectedParams with one name.
 fn put_rejected(name: &[u8], at: usize, out: &mut [u8]) -> usize
     requires { (at + (length name.now + 29) ≤ length out.old) × (length name.now ≤ 1024) }
     ensures { Appended at (rejected_element name.now) out.old result out.new }
@@ -143,7 +143,7 @@ fn put_rejected(name: &[u8], at: usize, out: &mut [u8]) -> usize
     put_byte(0, last, out)
 }
 
-// A payload with rejected_params alone.
+// A payload with rejectedParams alone.
 fn write_rejected(name: &[u8], out: &mut [u8]) -> Written
     requires { length name.now ≤ 1024 }
     ensures { wrote result out.new ≡ put_of (nak_payload name.now) out.old }

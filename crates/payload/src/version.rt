@@ -57,7 +57,7 @@ fn part(text: &[u8]) -> u64
 fn before_dot(text: &[u8]) -> &[u8]
     ensures { result.now ≡ before_dot text.now }
 {
-    let dot = bytes::scan::find(text, 0, text.len(), b'.');
+    let dot = lines::find(text, 0, text.len(), b'.');
     &text[0..dot]
 }
 
@@ -66,7 +66,7 @@ fn after_dot(text: &[u8]) -> &[u8]
     ensures { result.now ≡ after_dot text.now }
 {
     let end = text.len();
-    let dot = bytes::scan::find(text, 0, end, b'.');
+    let dot = lines::find(text, 0, end, b'.');
     if dot == end {
         return &text[dot..end];
     }
