@@ -3,17 +3,17 @@
 use Prim.Native.Nat.{ℕ, ◌+◌, ◌-◌, ◌≤◌, ◌<◌, max, min}
 use mathlib.Core.Path.{◌≡◌, refl, ap, ◌∙◌, sym, subst}
 use mathlib.Core.Bool.{Bool, true, false, ◌&&◌, ◌||◌, not}
-use lib.Dec.{eqb, leb, ltb}
+use lib.Dec.{eqb, leb}
 use mathlib.Core.List.{List, [], ◌++◌, append-nil}
 use native.Mathlib.Omega.{arith}
 use lib.ListN.{length, get_or, take, drop, drop_of_length-le}
 use lib.Seq.{take_at}
-use borrow.Author.Tests.{le-leb, lt-leb, le-ltb, leb-true, lt-ltb, ltb-false, eq-eqb, eqb-true, eqb-false, ne_eqb}
+use borrow.Author.Tests.{le-leb, lt-leb, le-ltb, leb-true, lt-ltb, eq-eqb, ne_eqb}
 use borrow.Rule.Slice.PartMut.{put_mid}
 use Rattle.numbers.specs.Bytes.{unless, part, laid, put_at}
 use Rattle.numbers.specs.Numbers.{bytes_be}
 use Rattle.numbers.proofs.Laws.{put_fits}
-use Rattle.numbers.proofs.Choices.{and_both, either, unless_elim}
+use Rattle.numbers.proofs.Choices.{either, unless_elim}
 use Rattle.frame.specs.declared.ServiceType.{ServiceType}
 use Rattle.frame.specs.declared.SessionId.{SessionId}
 use Rattle.frame.specs.declared.MessageId.{MessageId}
@@ -33,8 +33,6 @@ use Rattle.payload.specs.declared.append.Written as Payload
 use Rattle.payload.specs.declared.append.Written.TheVariants as payload
 use Rattle.payload.specs.Append as payloads
 use Rattle.payload.specs.declared.Tags.{Tags}
-use Rattle.payload.specs.declared.Payload as Bson
-use Rattle.payload.specs.declared.Payload.TheVariants as bson
 use Rattle.payload.specs.declared.Payload.TheVariants.{Accepted}
 use Rattle.payload.specs.Walk.{payload_of}
 use Rattle.payload.proofs.TopLevel.{AcceptedHolds, VersionInside, version_inside}
@@ -42,9 +40,7 @@ use Rattle.payload.specs.declared.reply.Parameter.{Parameter}
 use Rattle.payload.specs.declared.reply.Parameter.TheVariants as parameter
 use Rattle.payload.specs.Tags.{protocol_version, hash_id}
 use Rattle.payload.specs.declared.version.Version.{Version}
-use Rattle.payload.specs.declared.version.VersionText.{VersionText}
-use Rattle.payload.specs.declared.version.VersionText.TheVariants as text
-use Rattle.payload.specs.Version.{version_of, lesser_of, saying_of}
+use Rattle.payload.specs.Version.{lesser_of, saying_of}
 use Rattle.payload.specs.Reply.{service_ack_payload, nak_payload, name_of}
 use Rattle.payload.proofs.Replies.{length_nak}
 use Rattle.payload.proofs.Appends.{in_range_put}
@@ -53,14 +49,14 @@ use Rattle.session.specs.declared.Row.{Row}
 use Rattle.session.specs.declared.Said.{Said}
 use Rattle.session.specs.declared.Act.{Act}
 use Rattle.session.specs.declared.Act.TheVariants.{Refuse, Drop, Accept, Beat, Start, NoStart, Stop, Close, NoEnd, Claim, Append, Deliver, Single}
-use Rattle.session.specs.Rules.{reply_version, barred_by}
+use Rattle.session.specs.Rules.{barred_by}
 use Rattle.session.specs.Rows.{no_row, opened_row, message_at}
 use Rattle.session.specs.Decide.{place_of, need_of, held_of, first_of, due_number, sized, next_for, single_of, startable, starting_of, endable, hash_of, ending_of, control_of, content_of}
 use Rattle.link.specs.declared.Link.{Link}
 use Rattle.link.specs.declared.Grant.{Grant}
 use Rattle.link.specs.declared.Answer.TheVariants as answer
-use Rattle.link.specs.State.{index_of, new_id, version_allowed, row_fits, rules_hold, settings_fit, grant_fits, guard_of, with_row}
-use Rattle.link.specs.Call.{After, after, Wish, old, new, bad, wish_of_text, wish_of_payload, wish_of, opens, old_version, opened, opening_by, said_of, decision_of, applied, frame_of, call_of}
+use Rattle.link.specs.State.{index_of, new_id, guard_of, with_row}
+use Rattle.link.specs.Call.{After, after, wish_of, opens, old_version, opened, opening_by, said_of, decision_of, applied, frame_of, call_of}
 use Rattle.link.proofs.Guards.{guard_version}
 use Rattle.link.proofs.Table.{index_row}
 use Rattle.link.specs.Reply.{reply_header, reply_bytes, rpc, first_message_id, old_ack, new_ack, granted_payload}

@@ -152,7 +152,7 @@ fn put_front(bytes: &[u8], out: &mut [u8])
     ensures { out.new ≡ laid bytes.now out.old }
 {
     let end = bytes.len();
-    bytes::copy(bytes, &mut out[0..end]);
+    out[0..end].copy_from_slice(bytes);
 }
 
 // ---- what is done about a frame of a session

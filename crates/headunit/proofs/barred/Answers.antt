@@ -1,0 +1,10 @@
+-- `headunit::barred` meets its contract.
+-- Assumes nothing.
+use mathlib.Core.Path.{ap, ◌∙◌}
+use Rattle.session.specs.declared.Row.{Row}
+use Rattle.session.specs.Rules.{barred_by}
+use Rattle.headunit.proofs.barred.Goals as goal
+
+pub returns : goal.returns
+returns c = c.barred_by.ensures ∙ ap (λ (x : Row). barred_by c.major.result c.mtu.result x c.args.header) c.row_at-row.ensures
+    ∙ rw (c.major.ensures, c.mtu.ensures)

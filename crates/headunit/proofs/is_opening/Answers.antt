@@ -1,0 +1,10 @@
+-- `headunit::is_opening` meets its contract.
+-- Assumes nothing.
+use mathlib.Core.Path.{refl}
+use Rattle.link.specs.Call.{opens}
+use Rattle.headunit.proofs.is_opening.Goals as goal
+
+-- src/lib.rt:344:1
+pub returns : goal.returns
+unfolding opens
+returns c = refl

@@ -1,0 +1,21 @@
+-- `headunit::not_readable` meets its contract.
+-- Assumes nothing.
+use Prim.Native.Nat.{ℕ, min}
+use mathlib.Core.Path.{◌∙◌, ap}
+use Rattle.payload.specs.Tags.{protocol_version}
+use Rattle.payload.specs.Reply.{nak_payload}
+use native.Mathlib.Omega.{arith}
+use Rattle.session.specs.Rows.{no_session_id, no_message_id}
+use Rattle.link.specs.declared.Answer.TheVariants as answer
+use Rattle.link.specs.Reply.{reply_bytes, rpc}
+use Rattle.link.proofs.Replies.{reply_infos, rpc_listed}
+use Rattle.headunit.specs.Unit.{sent_of, replied_with}
+use Rattle.headunit.proofs.not_readable.Goals as goal
+
+pub put_nak-size-requires : goal.put_nak-size-requires
+put_nak-size-requires c = (c.requires.0, (rw c.least_byte.ensures (omega (arith, c.requires.1)), (rw c.least_byte.ensures (omega arith), (rpc_listed, reply_infos.1))))
+
+pub returns : goal.returns
+returns c = let a = c.args in
+    λ l p g e. ap (replied_with answer.Nacked a.consumed l p)
+    (c.put_nak-size.ensures ∙ ap (λ (v : ℕ). sent_of (reply_bytes v rpc 0x03 no_session_id no_message_id (nak_payload protocol_version)) a.out.now) (c.least_byte.ensures ∙ ap (λ (n : ℕ). min n 4) e))
