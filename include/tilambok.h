@@ -4,7 +4,7 @@
  * The functions are written in Rattle (crates/tilambok) and proved: for all inputs the status, the value and every lent
  * byte are what crates/tilambok/specs says, no byte outside the lent ones is read or written, and every call ends. This
  * file says the same in words; it is written by hand and is no part of the proof. Link with libtilambok.a
- * (`rt staticlib tilambok`).
+ * (`rt lib` in crates/tilambok).
  *
  * What the caller owes, since no check can see it:
  *   - A pointer and the length behind it describe bytes that the caller may read (a `const` pointer) or write (the others)

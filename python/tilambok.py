@@ -1,6 +1,6 @@
 """Tilambok for Python: the proved C library through ctypes, with nothing but the standard library.
 
-The library is the shared object that `python/build` makes of the proved archive (`rt staticlib tilambok`). Its path is the environment variable
+The library is the shared object that `python/build` makes of the proved archive (`rt lib` in crates/tilambok). Its path is the environment variable
 TILAMBOK_LIBRARY, or target/libtilambok.so of this repository. What each function does, and each refusal's number, is in include/tilambok.h; here a refusal
 is an exception, and bytes come and go as `bytes`.
 """

@@ -5,7 +5,7 @@ use std::env;
 
 fn main() {
     let package = env::var("CARGO_MANIFEST_DIR").expect("set by cargo");
-    let folder = format!("{package}/../../target/staticlib");
+    let folder = format!("{package}/../../crates/tilambok/out");
     println!("cargo:rustc-link-search=native={folder}");
     println!("cargo:rustc-link-lib=static=tilambok");
     println!("cargo:rerun-if-changed={folder}/libtilambok.a");

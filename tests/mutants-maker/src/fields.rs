@@ -42,30 +42,37 @@ impl Fields {
     }
 }
 
-/// `[pub] name: TYPE, ..`
+/// `[pub] name: TYPE, ..`; a ghost field is none.
 fn fields_of(source: &str, tokens: &[Token]) -> Vec<(String, String)> {
     let mut fields: Vec<(String, String)> = Vec::new();
     let mut depth = 0;
     let mut name = "";
+    let mut ghost = false;
     let mut typed = false;
     for token in tokens {
         let text = token.text(source);
         match text {
-            "(" | "[" => depth += 1,
-            ")" | "]" => depth -= 1,
-            "," if depth == 0 => typed = false,
+            "(" | "[" | "{" => depth += 1,
+            ")" | "]" | "}" => depth -= 1,
+            "," if depth == 0 => {
+                typed = false;
+                ghost = false;
+            }
+            "ghost" if !typed => ghost = true,
             ":" if !typed => {
                 typed = true;
-                fields.push((name.to_string(), String::new()));
+                if !ghost {
+                    fields.push((name.to_string(), String::new()));
+                }
                 continue;
             }
             _ => {}
         }
-        if typed {
+        if !typed && token.kind == Kind::Word {
+            name = text;
+        } else if typed && !ghost {
             let last = fields.last_mut().expect("a type follows a name");
             last.1.push_str(text);
-        } else if token.kind == Kind::Word {
-            name = text;
         }
     }
     fields
@@ -78,13 +85,14 @@ mod tests {
 
     #[test]
     fn names_of_one_type() {
-        let source = "pub struct Row { pub id: SessionId, // the id\n guarantee: u16, cap: u16, a: [u8; 2], b: [u8; 3] } struct T(u8);";
+        let source = "pub struct Row { pub id: SessionId, // the id\n guarantee: u16, cap: u16, ghost low: { f (guarantee, cap) }, ghost high: { f (guarantee, cap) }, a: [u8; 2], b: [u8; 3] } struct T(u8);";
         let mut fields = Fields::default();
         fields.declared(source, &tokens(source));
         assert_eq!(
             fields.others("cap").into_iter().collect::<Vec<_>>(),
             ["guarantee"]
         );
+        assert!(fields.others("low").is_empty());
         assert!(fields.others("a").is_empty());
         assert!(fields.others("id").is_empty());
     }

@@ -1,9 +1,7 @@
-//! The functions of a crate: their names as the prover prints them, where they stand, and which of them each one reaches.
-
-use std::collections::BTreeSet;
+//! The functions of a crate: their names as the prover prints them, and where they stand.
 
 use crate::places::{body, past_block};
-use crate::tokens::{tokens, Kind, Token};
+use crate::tokens::tokens;
 
 pub struct Function {
     /// as in `fn crate::NAME: proved`
@@ -11,8 +9,6 @@ pub struct Function {
     path: String,
     start: usize,
     end: usize,
-    /// the words of its body before a parenthesis
-    calls: BTreeSet<String>,
 }
 
 #[derive(Default)]
@@ -35,7 +31,7 @@ impl Functions {
                     at += 2;
                 }
                 "fn" => {
-                    let (first, end) = body(source, &tokens, at);
+                    let (_, end) = body(source, &tokens, at);
                     let name = tokens[at + 1].text(source);
                     let owned = if at < owner.1 { owner.0.as_str() } else { "" };
                     self.all.push(Function {
@@ -43,7 +39,6 @@ impl Functions {
                         path: path.to_string(),
                         start: tokens[at].start,
                         end: tokens[end - 1].end,
-                        calls: called(source, &tokens[first..end]),
                     });
                     at = end;
                 }
@@ -58,23 +53,6 @@ impl Functions {
             .iter()
             .find(|one| one.path == path && one.start <= place && place < one.end)
     }
-
-    /// The names of all functions that the one called `name` reaches, itself among them. Functions of one last name are not told apart.
-    pub fn reached(&self, name: &str) -> BTreeSet<String> {
-        let mut reached = BTreeSet::from([name.to_string()]);
-        let mut open = vec![name.to_string()];
-        while let Some(one) = open.pop() {
-            let calls = self.all.iter().filter(|f| f.name == one);
-            let words: BTreeSet<&String> = calls.flat_map(|f| &f.calls).collect();
-            for next in &self.all {
-                let last = next.name.rsplit("::").next().unwrap_or("");
-                if words.iter().any(|word| *word == last) && reached.insert(next.name.clone()) {
-                    open.push(next.name.clone());
-                }
-            }
-        }
-        reached
-    }
 }
 
 /// `src/a/b.rt` is `a::b::`, the crate's root nothing.
@@ -86,27 +64,17 @@ fn module(path: &str) -> String {
     }
 }
 
-fn called(source: &str, body: &[Token]) -> BTreeSet<String> {
-    let pairs = body.windows(2);
-    pairs
-        .filter(|pair| pair[0].kind == Kind::Word && pair[1].text(source) == "(")
-        .map(|pair| pair[0].text(source).to_string())
-        .collect()
-}
-
 #[cfg(test)]
 mod tests {
     use super::*;
 
     #[test]
-    fn names_places_and_calls() {
-        let source = "fn f() -> u8 ensures { λ r. g (r) } { 1 }\nimpl Row { pub fn free(self) -> u8 { f() } }\nfn h() -> u8 { Row::free(r) }";
+    fn names_and_places() {
+        let source = "fn f() -> u8 ensures low { g (result) } ensures* { result } { 1 }\nimpl Row { pub fn free(self) -> u8 { f() } }\nfn h() -> u8 { Row::free(r) }";
         let mut functions = Functions::default();
         functions.declared("src/a.rt", source);
         let names: Vec<&str> = functions.all.iter().map(|f| f.name.as_str()).collect();
         assert_eq!(names, ["a::f", "a::Row::free", "a::h"]);
-        let reached: Vec<String> = functions.reached("a::h").into_iter().collect();
-        assert_eq!(reached, ["a::Row::free", "a::f", "a::h"]);
         assert_eq!(
             functions
                 .at("src/a.rt", source.find('1').unwrap())

@@ -69,9 +69,9 @@ fn arguments() -> Option<Arguments> {
 
 fn run(arguments: &Arguments) -> io::Result<()> {
     let listed = fs::read_to_string(arguments.repository.join("crates.txt"))?;
-    let names = listed.lines().filter(|line| !line.starts_with('#'));
-    let all: Vec<String> = names
-        .filter_map(|line| Some(line.split_once(':')?.0.trim().to_string()))
+    let all: Vec<String> = tree::names(&listed)
+        .into_iter()
+        .map(str::to_string)
         .collect();
     let fields = mutants::declared_fields(&arguments.repository, &all)?;
     if let Some(unknown) = arguments.crates.iter().find(|name| !all.contains(name)) {
@@ -119,7 +119,6 @@ fn tried(
     if !waiting.is_empty() {
         let trial = Trial {
             tree: proved_tree(&arguments.repository, name)?,
-            functions: mutants::functions(&folder)?,
             name,
         };
         while !waiting.is_empty() {
@@ -158,10 +157,9 @@ fn proved_tree(repository: &Path, name: &str) -> io::Result<Tree> {
     let tree = Tree::of(repository, name)?;
     let (verdict, seconds) = tree.check()?;
     if verdict != Verdict::Survived {
-        let log = tree.log();
+        let log = fs::read_to_string(tree.log())?;
         return Err(io::Error::other(format!(
-            "{name} without an edit is not proved, see {}",
-            log.display()
+            "{name} without an edit is not proved:\n{log}"
         )));
     }
     println!("{name}: proved without an edit ({seconds:.1} s)");

@@ -83,13 +83,20 @@ pub fn body(source: &str, tokens: &[Token], from: usize) -> (usize, usize) {
     let mut at = from;
     while at < tokens.len() {
         match tokens[at].text(source) {
-            "requires" | "ensures" => at = past_block(source, tokens, at + 1),
+            "requires" | "ensures" => at = past_clause(source, tokens, at),
             "(" | "[" => at = past_block(source, tokens, at),
             "{" => break,
             _ => at += 1,
         }
     }
     (at, past_block(source, tokens, at))
+}
+
+/// `ensures { .. }`, `ensures name { .. }` or `ensures* { .. }`.
+fn past_clause(source: &str, tokens: &[Token], from: usize) -> usize {
+    let rest = &tokens[from..];
+    let open = rest.iter().position(|token| token.text(source) == "{");
+    open.map_or(tokens.len(), |open| past_block(source, tokens, from + open))
 }
 
 /// `let name: TYPE = ..`: the type is no code.
@@ -132,7 +139,7 @@ mod tests {
     #[test]
     fn bodies_and_values_alone() {
         let source = "ghost use a.{b}; use c::D; const N: [u8; 2] = 3; struct S { a: u8 }\n\
-            #[no_mangle] pub fn f(a: [u8; 4]) -> u8 requires { x (5) } ensures { λ r. ⌜ 6 ⌝ } { let x: [u8; 7] = 8; x }";
+            #[unsafe(no_mangle)] pub fn f(a: [u8; 4]) -> u8 requires { x (5) } ensures low { 6 } ensures* { 9 } { let x: [u8; 7] = 8; x }";
         assert_eq!(marked(source), "3 ; { let x = 8 ; x }");
     }
 }

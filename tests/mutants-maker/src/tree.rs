@@ -1,10 +1,12 @@
-//! A copy of one crate and of what it depends on, below target/mutants, in which edits are tried.
+//! A copy of one crate and of what it depends on, in which edits are tried. It lies among the temporary files: in a checkout rt ci takes no
+//! .rt file but those of its crates.
 
 use std::collections::BTreeSet;
+use std::env;
 use std::fs;
 use std::io;
 use std::path::{Path, PathBuf};
-use std::process::{Command, Stdio};
+use std::process::{self, Command, Stdio};
 use std::time::Instant;
 
 /// Seconds after which a check counts as one that cannot tell.
@@ -16,7 +18,7 @@ pub enum Verdict {
     Refused,
     Survived,
     NotCompiled,
-    /// Status 3, or no answer in time.
+    /// Another status, or no answer in time.
     Unclear,
 }
 
@@ -44,66 +46,59 @@ pub struct Tree {
 }
 
 impl Tree {
-    /// Copies the crate `name` of the repository, what it depends on, and the proved libraries of these.
+    /// Copies the crate `name` of the repository and what it depends on. Its checks begin with what those of the repository kept.
     pub fn of(repository: &Path, name: &str) -> io::Result<Tree> {
-        let root = repository.join("target/mutants").join(name);
+        let root = env::temp_dir().join(format!("mutants-{}-{name}", process::id()));
         let listed = fs::read_to_string(repository.join("crates.txt"))?;
-        for folder in ["crates", "target/rlib", "target/stamp"] {
-            remove(&root.join(folder))?;
-            fs::create_dir_all(root.join(folder))?;
-        }
-        fs::write(root.join("crates.txt"), &listed)?;
-        let own = format!("crates/{name}");
-        copy(&repository.join(&own), &root.join(&own))?;
-        for needed in needs(&listed, name) {
-            for part in [
-                format!("crates/{needed}"),
-                format!("target/rlib/{needed}.rlib"),
-                format!("target/stamp/{needed}"),
-            ] {
-                copy(&repository.join(&part), &root.join(&part))?;
-            }
-        }
-        Ok(Tree {
+        remove(&root)?;
+        let tree = Tree {
             root,
             name: name.to_string(),
-        })
+        };
+        let mut lines = String::new();
+        for part in needs(&listed, name).iter().map(String::as_str).chain([name]) {
+            lines += &format!("{}\n", line_of(&listed, part));
+            for folder in ["src", "specs", "proofs"] {
+                let path = format!("crates/{part}/{folder}");
+                if repository.join(&path).is_dir() {
+                    copy(&repository.join(&path), &tree.root.join(&path))?;
+                }
+            }
+        }
+        fs::write(tree.root.join("crates.txt"), lines)?;
+        Ok(tree)
+    }
+
+    fn folder(&self) -> PathBuf {
+        self.root.join("crates").join(&self.name)
     }
 
     pub fn file(&self, path: &str) -> PathBuf {
-        self.root.join("crates").join(&self.name).join(path)
+        self.folder().join(path)
     }
 
     /// Checks the crate as it stands; the verdict and the seconds it took.
     pub fn check(&self) -> io::Result<(Verdict, f64)> {
         let began = Instant::now();
-        let log = self.root.join("log");
+        let log = self.log();
         let said = fs::File::create(&log)?;
         let status = Command::new("timeout")
-            .args([PATIENCE, "rt", "dev", &self.name])
-            .env("RT_JOBS", "1")
-            .current_dir(&self.root)
+            .args([PATIENCE, "rt", "check", "--jobs", "1"])
+            .current_dir(self.folder())
             .stdin(Stdio::null())
             .stderr(said.try_clone()?)
             .stdout(said)
             .status()?;
-        let refused = fs::read_to_string(&log)?
-            .lines()
-            .any(|line| line.starts_with("logic=not-proved"));
-        let verdict = match status.code() {
-            Some(0) => Verdict::Survived,
-            Some(1) if refused => Verdict::Refused,
-            Some(1) | Some(2) => Verdict::NotCompiled,
-            _ => Verdict::Unclear,
-        };
+        let text = fs::read_to_string(&log)?;
+        let verdict = verdict(status.code(), &text);
         Ok((verdict, began.elapsed().as_secs_f64()))
     }
 
-    /// Whether the compiler takes the crate as it stands; a second, where a check takes many.
+    /// Whether the compiler takes the crate as it stands: some seconds, where a check takes many.
     pub fn compiles(&self) -> io::Result<bool> {
         let status = Command::new("rt")
-            .args(["mir", &self.name])
-            .current_dir(&self.root)
+            .args(["check", "--jobs", "1", "--only="])
+            .current_dir(self.folder())
             .stdin(Stdio::null())
             .stdout(Stdio::null())
             .stderr(Stdio::null())
@@ -111,12 +106,14 @@ impl Tree {
         Ok(status.success())
     }
 
-    /// Checks it with nothing kept of earlier checks; what was kept is put back.
+    /// Checks it with nothing kept of earlier checks of the crate; what was kept is put back.
     pub fn check_from_nothing(&self) -> io::Result<(Verdict, f64)> {
-        let kept = self.root.join("target/inc");
-        let aside = self.root.join("target/inc-aside");
+        let kept = self.folder().join("out/incremental");
+        let aside = self.root.join("kept");
         remove(&aside)?;
         fs::rename(&kept, &aside)?;
+        // an empty folder is what rt begins with, and not what a check elsewhere kept
+        fs::create_dir(&kept)?;
         let answer = self.check();
         remove(&kept)?;
         fs::rename(&aside, &kept)?;
@@ -129,13 +126,31 @@ impl Tree {
     }
 }
 
+impl Drop for Tree {
+    fn drop(&mut self) {
+        // what is left is of no use, and lies among the temporary files
+        let _ = remove(&self.root);
+    }
+}
+
+/// What the status and the text of `rt check` say.
+fn verdict(status: Option<i32>, said: &str) -> Verdict {
+    let has = |start: &str| said.lines().any(|line| line.starts_with(start));
+    match status {
+        Some(0) => Verdict::Survived,
+        Some(1) if has("logic=not-proved") => Verdict::Refused,
+        Some(1) if said.contains("error[") => Verdict::NotCompiled,
+        _ => Verdict::Unclear,
+    }
+}
+
 /// The crates of the repository that `name` reaches.
 fn needs(listed: &str, name: &str) -> BTreeSet<String> {
     let mut reached = BTreeSet::new();
     let mut open = vec![name.to_string()];
     while let Some(one) = open.pop() {
         for next in depends(listed, &one) {
-            if !depends_line(listed, &next).is_empty() && reached.insert(next.clone()) {
+            if !line_of(listed, &next).is_empty() && reached.insert(next.clone()) {
                 open.push(next);
             }
         }
@@ -143,25 +158,25 @@ fn needs(listed: &str, name: &str) -> BTreeSet<String> {
     reached
 }
 
+/// The names of the crates: the first word of each line, `NAME: ..` or `NAME staticlib: ..`.
+pub fn names(listed: &str) -> Vec<&str> {
+    listed.lines().filter_map(name_in).collect()
+}
+
+fn name_in(line: &str) -> Option<&str> {
+    let row = line.split('#').next().unwrap_or("");
+    row.split([' ', ':']).next().filter(|name| !name.is_empty())
+}
+
 /// The line of a crate in crates.txt, or nothing: then it is a library of the kit.
-fn depends_line<'l>(listed: &'l str, name: &str) -> &'l str {
-    let own = |line: &&str| {
-        line.split(':')
-            .next()
-            .is_some_and(|first| first.trim() == name)
-    };
+fn line_of<'l>(listed: &'l str, name: &str) -> &'l str {
+    let own = |line: &&str| name_in(line) == Some(name);
     listed.lines().find(own).unwrap_or("")
 }
 
 fn depends(listed: &str, name: &str) -> Vec<String> {
-    let line = depends_line(listed, name);
-    let names = line
-        .split('#')
-        .next()
-        .unwrap_or("")
-        .split(':')
-        .nth(1)
-        .unwrap_or("");
+    let row = line_of(listed, name).split('#').next().unwrap_or("");
+    let names = row.split(':').nth(1).unwrap_or("");
     names.split_whitespace().map(str::to_string).collect()
 }
 
@@ -191,11 +206,23 @@ mod tests {
 
     #[test]
     fn all_that_a_crate_reaches() {
-        let listed = "# names\na:\nb: a bytes\nc: b # why\n";
+        let listed = "# names\na:\nb: a bytes\nc staticlib: b # why\n";
+        assert_eq!(names(listed), ["a", "b", "c"]);
         assert_eq!(
             needs(listed, "c").into_iter().collect::<Vec<_>>(),
             ["a", "b"]
         );
         assert!(needs(listed, "a").is_empty());
+    }
+
+    #[test]
+    fn what_a_check_says() {
+        let refused = "src/a.rt:1:2: error: no\nlogic=not-proved\n";
+        assert_eq!(verdict(Some(0), "logic=proved sum=0\n"), Verdict::Survived);
+        assert_eq!(verdict(Some(1), refused), Verdict::Refused);
+        let broken = "src/a.rt:1:2: error[unknown-name]: cannot find value `b`\n";
+        assert_eq!(verdict(Some(1), broken), Verdict::NotCompiled);
+        assert_eq!(verdict(Some(2), ""), Verdict::Unclear);
+        assert_eq!(verdict(None, refused), Verdict::Unclear);
     }
 }

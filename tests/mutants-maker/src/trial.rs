@@ -5,13 +5,11 @@ use std::fs;
 use std::io;
 
 use crate::batches::{self, Said};
-use crate::functions::Functions;
 use crate::mutants::{edited, Mutant};
 use crate::tree::{Tree, Verdict};
 
 pub struct Trial<'n> {
     pub tree: Tree,
-    pub functions: Functions,
     /// of the crate
     pub name: &'n str,
 }
@@ -21,8 +19,7 @@ type Answer = (Verdict, f64);
 impl Trial<'_> {
     /// Tries some of those that wait, at least one.
     pub fn next<'m>(&self, waiting: &[&'m Mutant]) -> io::Result<Vec<(&'m Mutant, Answer)>> {
-        let has_proof = |function: &str| self.tree.file(&batches::proof_file(function)).is_file();
-        self.tried(&batches::next(waiting, &self.functions, has_proof))
+        self.tried(&batches::next(waiting))
     }
 
     /// A batch: those that the compiler refuses one by one, which is soon said, and the others together.
