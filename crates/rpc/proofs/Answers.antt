@@ -125,9 +125,11 @@ reason_given form version s n (unknown k) = rw k
 reason_given form version s n (short j l) = rw (j.known, j.headed, lt-leb 12 (length s) l)
 reason_given form version s n (kind j l a) = fault_given form version s 41 j l (rw a) (λ z. omega arith)
 reason_given form version s n (id j l a b) = fault_given form version s 42 j l (rw (a, b)) (λ z. omega arith)
-reason_given form version s n (past j l a b c) = fault_given form version s 43 j l (rw (a, b, lt-leb (fields_in form s).size (length s - 12) c)) (λ z. omega arith)
+reason_given form version s n (past j l a b c) =
+    fault_given form version s 43 j l (rw (a, b, lt-leb (fields_in form s).size (length s - 12) c)) (λ z. omega arith)
 reason_given form version s n (after j l a b c r) =
-    fault_given form version s 44 j l (rw (a, b, le-leb (fields_in form s).size (length s - 12) (omega arith), lt-leb (length s - 12) (fields_in form s).size c, r))
+    fault_given form version s 44 j l
+    (rw (a, b, le-leb (fields_in form s).size (length s - 12) (omega arith), lt-leb (length s - 12) (fields_in form s).size c, r))
     (λ z. omega arith)
 
 pub refusals : Refusals

@@ -55,7 +55,8 @@ module _ (form : Form) (f : Fields) (json bulk o : List ℕ) (room : 12 + length
 
 pub message_length : (h : Header) (size : ℕ) (json bulk : List ℕ) → length (message_bytes h size json bulk) ≡ 12 + length json + length bulk
 message_length h size json bulk =
-    length-append (layout_bytes (form_in h) (fields_of h size) ++ json) bulk ∙ ap (λ (n : ℕ). n + length bulk) (front_length (form_in h) (fields_of h size) json)
+    length-append (layout_bytes (form_in h) (fields_of h size) ++ json) bulk
+    ∙ ap (λ (n : ℕ). n + length bulk) (front_length (form_in h) (fields_of h size) json)
 
 -- the three ways of a message with a header; form, f and n are what code made of it
 module _ (h : Header) (size n : ℕ) (json bulk out : List ℕ) (form : Form) (f : Fields) (i : form ≡ form_in h) (j : f ≡ fields_of h size)

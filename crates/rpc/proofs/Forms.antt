@@ -1,8 +1,8 @@
 -- The laws of specs/Rules: what the forms' values leave room for, and what a message without fault says.
 -- Assumes nothing.
-use Prim.Native.Nat.{ℕ, ◌+◌, ◌-◌, ◌*◌, ◌/◌, ◌^◌, ◌≤◌, ◌<◌}
+use Prim.Native.Nat.{ℕ, ◌+◌, ◌*◌, ◌/◌, ◌^◌, ◌≤◌, ◌<◌}
 use mathlib.Core.Path.{◌≡◌, refl, ap, ◌∙◌, sym}
-use mathlib.Core.Bool.{Bool, true, false, ◌&&◌, ◌||◌, not}
+use mathlib.Core.Bool.{Bool, true, false, ◌&&◌, ◌||◌}
 use mathlib.Core.List.{[], ◌∷◌}
 use native.Mathlib.Omega.{arith}
 use lib.Dec.{eqb, leb, ltb}
@@ -14,11 +14,6 @@ use Rattle.frame.proofs.Laws.{passed}
 use Rattle.rpc.specs.Rules.{is_query, id_span, kind_fits, id_fits, may_end, size_fault, fault_of}
 use Rattle.rpc.specs.declared.Form.{Form}
 use Rattle.rpc.specs.declared.Fields.{Fields}
-
--- a test of code that failed, where it is this one
-pub refuted : {b : Bool} (test : Bool) → b ≡ true → b ≡ not test → test ≡ false
-refuted true e f = sym e ∙ f
-refuted false e f = refl
 
 not_both : false ≡ true → ⊥
 not_both e =

@@ -55,7 +55,8 @@ size_same (OfBulk h) size = refl
 size_same (OfQuery h) size = refl
 
 -- type and id of a word
-word_back : (form : Form) (kind id : ℕ) → id < id_span form → ((kind * id_span form + id) / id_span form ≡ kind) × ((kind * id_span form + id) % id_span form ≡ id)
+word_back : (form : Form) (kind id : ℕ) → id < id_span form
+    → ((kind * id_span form + id) / id_span form ≡ kind) × ((kind * id_span form + id) % id_span form ≡ id)
 unfolding id_span
 word_back form kind id h = back (is_query form) h
   where
@@ -109,15 +110,20 @@ fields_again form s b l =
     let e₁ : take 12 s ≡ take 4 s ++ take 8 (drop 4 s) = take-add 4 8 s in
     let e₂ : take 8 (drop 4 s) ≡ take 4 (drop 4 s) ++ take 4 (drop 4 (drop 4 s)) = take-add 4 4 (drop 4 s) in
     let e₃ : drop 4 (drop 4 s) ≡ drop 8 s = drop-drop 4 4 s in
-    rw (word_again form (value_be (part s 0 4)), number_again s 0 b (omega arith), number_again s 4 b (omega arith), number_again s 8 b (omega arith), e₁, e₂, e₃, append_assoc)
+    let n₀ = number_again s 0 b (omega arith) in
+    let n₁ = number_again s 4 b (omega arith) in
+    let n₂ = number_again s 8 b (omega arith) in
+    rw (word_again form (value_be (part s 0 4)), n₀, n₁, n₂, e₁, e₂, e₃, append_assoc)
 
 -- nothing follows the JSON: as the writer says it, and as the reader does
 ends_same : (j b n : ℕ) → n ≡ 12 + j + b → leb (n - 12) j ≡ eqb b 0
 ends_same j b n e =
-    split (eqb b 0) (λ t. le-leb (n - 12) j (omega (arith, eqb-true b 0 t)) ∙ sym t) (λ t. let z : b ≡ 0 → ⊥ = eqb-false b 0 t in lt-leb (n - 12) j (omega arith) ∙ sym t)
+    split (eqb b 0) (λ t. le-leb (n - 12) j (omega (arith, eqb-true b 0 t)) ∙ sym t)
+    (λ t. let z : b ≡ 0 → ⊥ = eqb-false b 0 t in lt-leb (n - 12) j (omega arith) ∙ sym t)
 
 -- what the writer lays of a message without fault
-module _ (version : ℕ) (h : Header) (size : ℕ) (json bulk : List ℕ) (j : Judged (form_in h) version) (u : AreU32 h size) (z : fault_for h size json bulk ≡ 0) where
+module _ (version : ℕ) (h : Header) (size : ℕ) (json bulk : List ℕ) (j : Judged (form_in h) version) (u : AreU32 h size)
+    (z : fault_for h size json bulk ≡ 0) where
   sound : Sound (form_in h) (fields_of h size) (eqb size (length json)) (eqb (length bulk) 0)
   sound = no_fault (form_in h) (fields_of h size) (eqb size (length json)) (eqb (length bulk) 0) z
 
@@ -130,7 +136,8 @@ module _ (version : ℕ) (h : Header) (size : ℕ) (json bulk : List ℕ) (j : J
       = append_assoc (layout_bytes (form_in h) (fields_of h size)) json bulk in
       rw e (fields_back (form_in h) (fields_of h size) (json ++ bulk) sound.kind sound.id u.number (rw (size_same h size) u.json_size))
 
-  written_fault : fault_of (form_in h) (fields_of h size) (leb size (length (message_bytes h size json bulk) - 12)) (leb (length (message_bytes h size json bulk) - 12) size) ≡ 0
+  written_fault : fault_of (form_in h) (fields_of h size) (leb size (length (message_bytes h size json bulk) - 12))
+      (leb (length (message_bytes h size json bulk) - 12) size) ≡ 0
   written_fault =
       let l : length (message_bytes h size json bulk) ≡ 12 + size + length bulk = message_length h size json bulk ∙ omega (arith, sized) in
       let e : leb (length (message_bytes h size json bulk) - 12) size ≡ eqb (length bulk) 0
@@ -197,7 +204,8 @@ module _ (version : ℕ) (h : Header) (size n : ℕ) (json bulk out left : List 
   from_whole : Judged (form_in h) version → AreU32 h size → Back (whole_of h size json bulk out)
   unfolding whole_of
   from_whole j u =
-      unless_elim Back (eqb (fault_for h size json bulk) 0) (wrote (written.Refused (fault_for h size json bulk)) out) (put_of (message_bytes h size json bulk) out)
+      unless_elim Back (eqb (fault_for h size json bulk) 0) (wrote (written.Refused (fault_for h size json bulk)) out)
+      (put_of (message_bytes h size json bulk) out)
       (λ t d. absurd (not_done (fault_for h size json bulk) out left n d))
       (λ t d. rw (put_told (message_bytes h size json bulk) out left n d) (whole_back version h size json bulk j u (eqb-true (fault_for h size json bulk) 0 t)))
 
@@ -246,7 +254,12 @@ module _ (form : Form) (version : ℕ) (s : List ℕ) (h : Header) (size : ℕ) 
       let z : length s ≡ 12 + size + length (bulk_part s p) = omega (arith, bulk_length, size_there, q.long) in
       let m : leb (length s - 12) f.size ≡ eqb (length (bulk_part s p)) 0 = rw (← q.sized) (ends_same size (length (bulk_part s p)) (length s) z) in
       rw (form_is, fields_are)
-      (sound_none form f _ _ record { kind = read_sound.kind; id = read_sound.id; size = eq-eqb size (length (json_part s p)) (sym json_length); end = rw (← m) read_sound.end })
+      (sound_none form f _ _ record {
+        kind = read_sound.kind;
+        id = read_sound.id;
+        size = eq-eqb size (length (json_part s p)) (sym json_length);
+        end = rw (← m) read_sound.end;
+      })
 
   again_bytes : AreBytes s → message_bytes h size (json_part s p) (bulk_part s p) ≡ s
   again_bytes b =

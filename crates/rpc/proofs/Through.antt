@@ -36,5 +36,6 @@ through_all h size n json bulk buffer left o fits wrote_it form s k small opened
     let a : Arrives o m e = arrives_whole s k o m small opened mtu first f accepted rest order in
     record {
       form = service_form (values_of e.answer).service o.service a.on ∙ form;
-      reads = subst (λ (bytes : List ℕ). ReadsAs o.version bytes h size json bulk) (sym (handed_is o m e a)) (written_read_back o.version h size n json bulk buffer left fits wrote_it);
+      reads = subst (λ (bytes : List ℕ). ReadsAs o.version bytes h size json bulk) (sym (handed_is o m e a))
+          (written_read_back o.version h size n json bulk buffer left fits wrote_it);
     }

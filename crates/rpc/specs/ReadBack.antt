@@ -67,7 +67,8 @@ pub data Reason (form : Form) (version : ℕ) (s : List ℕ) : ℕ → Type 0 wh
   -- "41 type not 0 to 2 (query: not 00, 10, 20 or FF)"
   kind : Judged form version → 12 ≤ length s → kind_fits form (fields_in form s).kind ≡ false → Reason form version s 41
   -- "42 query id not 1, 2 or FFFFFF"
-  id : Judged form version → 12 ≤ length s → kind_fits form (fields_in form s).kind ≡ true → id_fits form (fields_in form s).id ≡ false → Reason form version s 42
+  id : Judged form version → 12 ≤ length s → kind_fits form (fields_in form s).kind ≡ true → id_fits form (fields_in form s).id ≡ false
+      → Reason form version s 42
   -- "43 JSON size past the end"
   past : Judged form version → 12 ≤ length s → kind_fits form (fields_in form s).kind ≡ true → id_fits form (fields_in form s).id ≡ true
       → length s - 12 < (fields_in form s).size → Reason form version s 43

@@ -36,7 +36,8 @@ pub record Understood (version : ℕ) (h : Header) (size : ℕ) (json bulk : Lis
 abbrev pub ThroughAll : Type 0
 ThroughAll =
     -- the writer wrote the message, n bytes at the front of a buffer, for the session's version
-    (h : Header) (size n : ℕ) (json bulk buffer left : List ℕ) (o : Outgoing) → AreU32 h size → write_of o.version h size json bulk buffer ≡ wrote (Bytes n) left
+    (h : Header) (size n : ℕ) (json bulk buffer left : List ℕ) (o : Outgoing) → AreU32 h size
+    → write_of o.version h size json bulk buffer ≡ wrote (Bytes n) left
     -- it is sent on the service of its form
     → form_of o.service ≡ InForm (form_in h)
     -- and arrives: for an open session, chunks within the mtu, its first frame accepted, the others given in order
