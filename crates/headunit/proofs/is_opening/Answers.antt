@@ -4,7 +4,6 @@ use mathlib.Core.Path.{refl}
 use Rattle.link.specs.Call.{opens}
 use Rattle.headunit.proofs.is_opening.Goals as goal
 
--- src/lib.rt:344:1
 pub returns : goal.returns
 unfolding opens
 returns c = refl

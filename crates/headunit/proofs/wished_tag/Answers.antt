@@ -6,28 +6,21 @@ use native.Mathlib.Omega.{arith}
 use borrow.Author.Tests.{not-true, not-false}
 use Rattle.headunit.proofs.wished_tag.Goals as goal
 
--- src/lib.rt:380:9
 pub returns-then-not-tag : goal.returns-then-not-tag
 returns-then-not-tag c =
     let a = c.args in
     rw (not-true a.tag.found c.if-not-tag.true)
 
--- src/lib.rt:383:15
 pub overflow_add-end : goal.overflow_add-end
 overflow_add-end c =
     let a = c.args in
     omega (arith, c.requires (not-false a.tag.found c.if-not-tag.false))
 
--- src/lib.rt:384:17
--- src/lib.rt:384:17
--- src/lib.rt:384:17
 pub slice_bounds-wished_text-end : goal.slice_bounds-wished_text-end
 slice_bounds-wished_text-end c =
     let a = c.args in
     omega (arith, c.requires (not-false a.tag.found c.if-not-tag.false))
 
--- src/lib.rt:384:5
--- src/lib.rt:375:1
 pub returns : goal.returns
 returns c =
     let a = c.args in

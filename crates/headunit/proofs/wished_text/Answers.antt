@@ -3,17 +3,11 @@
 use borrow.Author.Tests.{lt-ltb, le-ltb}
 use Rattle.headunit.proofs.wished_text.Goals as goal
 
--- src/lib.rt:364:11
--- src/lib.rt:365:45
--- src/lib.rt:367:17
 pub returns-then-version-lt5 : goal.returns-then-version-lt5
 returns-then-version-lt5 c = rw (← c.read.ensures, c.in-Good.is, lt-ltb _ _ c.if-version-lt5.true)
 
--- src/lib.rt:371:47
--- src/lib.rt:361:1
 pub returns-else-version-lt5 : goal.returns-else-version-lt5
 returns-else-version-lt5 c = rw (← c.read.ensures, c.in-Good.is, le-ltb _ _ c.if-version-lt5.false)
 
--- src/lib.rt:361:1
 pub returns-in-Bad : goal.returns-in-Bad
 returns-in-Bad c = rw (← c.read.ensures, c.in-Bad.is)

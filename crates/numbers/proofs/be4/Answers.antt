@@ -7,9 +7,6 @@ use Rattle.numbers.proofs.Laws.{known_bytes}
 use Rattle.numbers.proofs.Turns.{part_there, part_turned, width_most}
 use Rattle.numbers.proofs.be4.Goals as goal
 
--- TODO cast-swapped : tie.Need-overflow-cast-swapped
--- TODO cast-swapped c = omega (arith, c.sum-le.ensures.below)
-
 pub returns-then-n-eq4 : goal.returns-then-n-eq4
 returns-then-n-eq4 c =
     let a = c.args in
@@ -23,5 +20,3 @@ pub returns : goal.returns
 returns c =
     let a = c.args in
     c.sum_be.ensures.is ∙ ap value_be (part_there a.s.now a.at 4 c.there-n.result c.there-n.ensures)
-
--- TODO: goal overflow-cast-swapped has no new name; goals: ['there-n-requires', 'sum_le-requires', 'overflow_cast-sum_le', 'swapped-requires', 'returns-then-n-eq4', 'sum_be-requires', 'overflow_cast-result', 'returns']

@@ -16,5 +16,3 @@ returns c =
       is = c.sum_le-2.ensures.is ∙ ap value_le (part_there a.s.now a.at a.w c.there-n.result c.there-n.ensures);
       below = omega (arith, c.sum_le-2.ensures.below, width_most c.there-n.result a.w (omega arith));
     }
-
--- TODO: sum_le-requires: fits2 -> fits (by its beginning)

@@ -18,7 +18,3 @@ returns-then-fits c =
 pub returns-else-fits : goal.returns-else-fits
 unfolding put_at
 returns-else-fits c = rw (sym c.fits.ensures ∙ c.if-fits.false)
-
--- TODO: store_le-requires: fits2 -> fits (by its beginning)
--- TODO: returns-then-fits: fits2 -> fits (by its beginning)
--- TODO: returns-else-fits: fits2 -> fits (by its beginning)

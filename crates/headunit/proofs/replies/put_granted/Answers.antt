@@ -13,18 +13,12 @@ use Rattle.payload.proofs.Replies.{length_service_ack}
 use Rattle.headunit.proofs.Laws.{payload_whole}
 use Rattle.headunit.proofs.replies.put_granted.Goals as goal
 
--- src/replies.rt:99:57
--- src/replies.rt:99:5
--- src/replies.rt:100:35
--- src/replies.rt:100:5
 pub put-requires : goal.put-requires
 put-requires c =
     let a = c.args in
     let e = payload_whole (service_ack_payload a.hash a.mtu) (replicate 30 0) (length_service_ack a.hash a.mtu) c.write_service_ack.ensures in
     (c.requires.0, (c.requires.1.0, (c.requires.1.1.0, (c.requires.1.1.1, (reply_infos.0, omega (arith, ap length e, length_service_ack a.hash a.mtu))))))
 
--- src/replies.rt:94:1
--- src/replies.rt:94:1
 pub returns : goal.returns
 returns c =
     let a = c.args in

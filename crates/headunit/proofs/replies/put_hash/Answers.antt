@@ -13,17 +13,11 @@ use Rattle.numbers.proofs.Laws.{length_be}
 use Rattle.headunit.proofs.Laws.{raw_put}
 use Rattle.headunit.proofs.replies.put_hash.Goals as goal
 
--- src/replies.rt:89:22
--- src/replies.rt:89:5
--- src/replies.rt:90:35
--- src/replies.rt:90:5
 pub put-requires : goal.put-requires
 put-requires c =
     let a = c.args in
     (c.requires.0, (c.requires.1.0, (c.requires.1.1.0, (c.requires.1.1.1, (reply_infos.0, omega (arith, ap length (raw_put (replicate 4 0) (bytes_be 4 a.hash) refl (length_be 4 a.hash) c.put_be4.ensures), length_be 4 a.hash))))))
 
--- src/replies.rt:84:1
--- src/replies.rt:84:1
 pub returns : goal.returns
 returns c =
     let a = c.args in

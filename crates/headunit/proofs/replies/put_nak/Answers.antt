@@ -12,12 +12,6 @@ use Rattle.payload.specs.Reply.{nak_payload, name_of}
 use Rattle.headunit.proofs.Laws.{payload_front, front_is, nak_short}
 use Rattle.headunit.proofs.replies.put_nak.Goals as goal
 
--- src/replies.rt:120:67
--- src/replies.rt:120:30
--- src/replies.rt:120:9
--- src/replies.rt:121:24
--- src/replies.rt:121:24
--- src/replies.rt:121:24
 pub slice_bounds-put-end : goal.slice_bounds-put-end
 slice_bounds-put-end c =
     let a = c.args in
@@ -25,7 +19,6 @@ slice_bounds-put-end c =
     let w = payload_front (nak_payload (name_of a.parameter)) (replicate 64 0) (omega arith) c.payload_count-size.ensures c.write_nak.ensures in
     omega (arith, w.0, ap length w.1)
 
--- src/replies.rt:121:5
 pub put-requires : goal.put-requires
 put-requires c =
     let a = c.args in
@@ -33,8 +26,6 @@ put-requires c =
     let w = payload_front (nak_payload (name_of a.parameter)) (replicate 64 0) (omega arith) c.payload_count-size.ensures c.write_nak.ensures in
     (c.requires.0, (c.requires.1.0, (c.requires.1.1.0, (c.requires.1.1.1.0, (c.requires.1.1.1.1, omega (arith, w.0))))))
 
--- src/replies.rt:115:1
--- src/replies.rt:115:1
 pub returns : goal.returns
 returns c =
     let a = c.args in

@@ -15,12 +15,6 @@ use Rattle.link.proofs.Replies.{rpc_listed}
 use Rattle.headunit.proofs.Laws.{said_front, front_is}
 use Rattle.headunit.proofs.replies.put_opened.Goals as goal
 
--- src/replies.rt:109:83
--- src/replies.rt:109:30
--- src/replies.rt:109:9
--- src/replies.rt:111:29
--- src/replies.rt:111:29
--- src/replies.rt:111:29
 pub slice_bounds-put-end : goal.slice_bounds-put-end
 slice_bounds-put-end c =
     let a = c.args in
@@ -28,7 +22,6 @@ slice_bounds-put-end c =
     let w = said_front a.version (ack_payload a.hash a.mtu a.version) (replicate 64 0) c.requires.1 (omega arith) c.payload_count-size.ensures c.write_ack.ensures in
     omega (arith, w.0, ap length w.1)
 
--- src/replies.rt:111:5
 pub put-requires : goal.put-requires
 put-requires c =
     let a = c.args in
@@ -36,8 +29,6 @@ put-requires c =
     let w = said_front a.version (ack_payload a.hash a.mtu a.version) (replicate 64 0) c.requires.1 (omega arith) c.payload_count-size.ensures c.write_ack.ensures in
     (c.requires.0, (omega arith, (omega arith, (rpc_listed, (reply_infos.0, omega (arith, w.0))))))
 
--- src/replies.rt:104:1
--- src/replies.rt:104:1
 pub returns : goal.returns
 returns c =
     let a = c.args in

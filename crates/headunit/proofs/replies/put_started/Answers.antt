@@ -8,17 +8,11 @@ use Rattle.headunit.specs.Unit.{sent_of}
 use Rattle.headunit.proofs.Laws.{granted_new, granted_old}
 use Rattle.headunit.proofs.replies.put_started.Goals as goal
 
--- src/replies.rt:132:9
--- src/replies.rt:132:9
--- src/replies.rt:132:9
 pub returns-then-settled-eq5 : goal.returns-then-settled-eq5
 returns-then-settled-eq5 c =
     let a = c.args in
     c.put_granted.ensures ∙ ap (λ (x : List ℕ). sent_of (reply_bytes a.from.version a.from.service 0x02 a.from.session a.message x) a.out.now) (granted_new a.settled a.hash a.mtu c.if-settled-eq5.true)
 
--- src/replies.rt:134:5
--- src/replies.rt:127:1
--- src/replies.rt:127:1
 pub returns : goal.returns
 returns c =
     let a = c.args in
