@@ -1,34 +1,20 @@
 -- A line as a whole: which lines are taken, from what the decoder and the reader say, and what a line leaves, from what its parts leave.
 -- By the tests of the definitions. Assumes nothing.
-use Rattle.std.proofs.Common.{◌≡◌, ℕ, ◌/◌, ◌%◌, ◌<◌, ◌≤◌, Bool, true, false, not, eqb, ltb, List, [], ◌∷◌, length, take, drop, sym, refl, ap, ◌∙◌, subst, arith, take_at, ltb-true, eq-eqb, ne_eqb, eqb-true, le-leb}
+use Rattle.std.proofs.Common.{◌≡◌, ℕ, ◌/◌, ◌%◌, ◌<◌, ◌≤◌, Bool, true, false, not, eqb, ltb, List, length, take, drop, sym, refl, ◌∙◌, subst, arith, take_at, ltb-true, eq-eqb, ne_eqb, eqb-true, le-leb}
 use mathlib.Core.Bool.{and-false}
 use borrow.Author.Tests.{lt-leb, eqb-false, not-true, not-false}
 use Rattle.numbers.specs.Bytes.{pick, laid}
-use Rattle.numbers.proofs.Choices.{split, either}
+use Rattle.numbers.proofs.Choices.{either}
 use Rattle.lines.specs.declared.Decoded.{Decoded}
 use Rattle.lines.specs.declared.Decoded.TheVariants as decodes
 use Rattle.lines.specs.Text.{every}
 use Rattle.lines.specs.Hex.{is_hex, bytes_of, Decoding, decoded, decode_of}
 use Rattle.lines.proofs.Characters.{length_bytes}
-use Rattle.frame.specs.declared.Header.{Header}
-use Rattle.frame.specs.declared.Extent.{Extent}
-use Rattle.frame.specs.declared.Reading.{Reading}
-use Rattle.frame.specs.declared.Reading.TheVariants as reading
 use Rattle.frame.specs.Read.{read_of}
-use Rattle.link.specs.declared.Grant.{Grant}
-use Rattle.state.specs.Calls.{call_in, Told, told_of}
-use Rattle.headunit.specs.Unit.{Sent, sent, sent_of}
-use Rattle.benchline.specs.declared.Output.TheVariants.{Text}
+use Rattle.state.specs.Calls.{call_in, told_of}
 use Rattle.benchline.specs.declared.Input.{Input}
 use Rattle.benchline.specs.declared.Input.TheVariants.{Frame, NotTaken}
-use Rattle.benchline.specs.Line.{offer, is_frame, is_taken, letter_x, verdict_of, text_of, next_of, leaving, saying, refused_line, answered_line, most_text, line_of}
-
--- a frame and no more, where the test b says whether it takes all the bytes
-pub whole_frame : {b : Bool} {r s : Reading} {h : Header} {e : Extent} (bytes : List ℕ) → r ≡ s → r ≡ reading.Frame h e
-    → (b ≡ true → e.consumed ≡ length bytes) → (b ≡ false → e.consumed ≡ length bytes → ⊥) → b ≡ is_frame bytes s
-whole_frame {b} {e = e} bytes f g y n =
-    split b (λ t. t ∙ rw (← f, g) (sym (eq-eqb e.consumed (length bytes) (y t)))) λ t.
-    t ∙ rw (← f, g) (sym (ne_eqb e.consumed (length bytes) (n t)))
+use Rattle.benchline.specs.Line.{offer, is_frame, is_taken, next_of, refused_line, answered_line, most_text, line_of}
 
 -- what the decoder's answers say of the digits
 module _ (line out : List ℕ) where
@@ -98,22 +84,6 @@ frame_told false n k e f = (cc, cc)
 pub none_told : (b : Bool) (k : ℕ) {r : Input} → r ≡ NotTaken → r ≡ pick b (Frame k) NotTaken → b ≡ false
 none_told true k e f = cc
 none_told false k e f = refl
-
--- what an answered and a refused line leave
-module _ (lines : ℕ) (text : List ℕ) {number count : ℕ} {text' : List ℕ} (n : number ≡ next_of lines) where
-  pub answered_is : (state pool bytes out : List ℕ) {o : Told} {g : Grant} → g ≡ offer → o ≡ told_of (call_in state pool bytes out g)
-      → sent count text' ≡ sent_of (text_of number (verdict_of o.values o.out)) text
-      → leaving (Text count) number o.state o.pool o.out text' ≡ answered_line (next_of lines) (told_of (call_in state pool bytes out offer)) text
-  answered_is state pool bytes out {o} e c s =
-      ap (λ (w : Sent). leaving (Text w.count) number o.state o.pool o.out w.out) s
-      ∙ ap (λ (x : Told). answered_line number x text) (c ∙ ap (λ (x : Grant). told_of (call_in state pool bytes out x)) e)
-      ∙ ap (λ (k : ℕ). answered_line k (told_of (call_in state pool bytes out offer)) text) n
-
-  pub refused_is : (state pool out : List ℕ) → sent count text' ≡ sent_of (text_of number (letter_x ∷ [])) text
-      → leaving (Text count) number state pool out text' ≡ refused_line lines state pool out text
-  refused_is state pool out s =
-      ap (λ (w : Sent). leaving (Text w.count) number state pool out w.out) s
-      ∙ ap (λ (k : ℕ). saying (text_of k (letter_x ∷ [])) k state pool out text) n
 
 -- the line's outcomes
 module _ (lines : ℕ) (line state pool out text : List ℕ) (room : most_text out ≤ length text) where

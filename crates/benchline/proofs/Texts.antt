@@ -1,22 +1,13 @@
 -- Text put into a buffer part by part: parts with their space, and a line's whole text. By the laws of take and drop and of `Appended`. Assumes nothing.
-use Rattle.std.proofs.Common.{◌≡◌, ℕ, ◌+◌, ◌-◌, ◌*◌, ◌/◌, ◌<◌, ◌≤◌, leb, List, [], ◌∷◌, ◌++◌, length, take, sym, refl, ap, ◌∙◌, append_assoc, arith, length-append, take-append-drop, length-take, le-leb, leb-false, leb-true}
-use borrow.Author.Tests.{lt-leb}
-use Rattle.numbers.proofs.Choices.{split}
+use Rattle.std.proofs.Common.{◌≡◌, ℕ, ◌+◌, ◌<◌, ◌≤◌, List, [], ◌∷◌, ◌++◌, length, take, sym, refl, ap, ◌∙◌, append_assoc, arith, length-append, take-append-drop, length-take}
 use Rattle.lines.specs.Hex.{hex_of}
 use Rattle.lines.specs.Decimal.{decimal_of}
 use Rattle.lines.proofs.Characters.{length_hex}
 use Rattle.payload.specs.Append.{Appended}
 use Rattle.payload.proofs.Appends.{more, renamed}
-use Rattle.frame.specs.declared.ServiceType.{ServiceType}
 use Rattle.link.specs.Values.{Kind, short, refused, reply, silent, delivery, Values}
 use Rattle.headunit.specs.Unit.{sent, sent_of}
-use Rattle.benchline.specs.Line.{spaced, letter_w, letter_d, verdict_by, verdict_of, text_of}
-
--- the test for room without a sum that might not fit
-pub room_test : (t o : ℕ) → 32 ≤ t → leb o ((t - 32) / 2) ≡ leb (2 * o + 32) t
-room_test t o h =
-    split (leb o ((t - 32) / 2)) (λ e. e ∙ sym (le-leb (2 * o + 32) t (omega (arith, leb-true o ((t - 32) / 2) e)))) λ e.
-    e ∙ sym (lt-leb (2 * o + 32) t (omega (arith, leb-false o ((t - 32) / 2) e)))
+use Rattle.benchline.specs.Line.{spaced, verdict_by, verdict_of, text_of}
 
 -- the front of a buffer is no longer than the buffer
 pub front_short : {q : List ℕ} (n : ℕ) (o : List ℕ) → q ≡ take n o → length q ≤ length o
@@ -48,15 +39,6 @@ pub part_put : (bytes o : List ℕ) {at n m : ℕ} {p q : List ℕ} → 0 < leng
     → Appended at (spaced (hex_of bytes)) o m q
 part_put bytes o h room e f =
     renamed (spaced_some (hex_of bytes) (omega (arith, length_hex bytes))) (more (32 ∷ []) (hex_of bytes) room e f)
-
--- a verdict by its parts; v is the verdict
-module _ {at m : ℕ} {o p q v : List ℕ} (n : ℕ) (out : List ℕ) where
-  pub reply_said : v ≡ letter_w ∷ spaced (hex_of (take n out)) → q ≡ take n out → Appended at (letter_w ∷ spaced (hex_of q)) o m p → Appended at v o m p
-  reply_said e f g = rw (e, ← f) g
-
-  pub delivery_said : (s : ServiceType) → v ≡ letter_d ∷ (spaced (hex_of (s.0 ∷ [])) ++ spaced (hex_of (take n out))) → q ≡ take n out
-      → Appended at (letter_d ∷ (spaced (hex_of (s.0 ∷ [])) ++ spaced (hex_of q))) o m p → Appended at v o m p
-  delivery_said s e f g = rw (e, ← f) g
 
 -- no verdict is empty
 verdict_by_lem : (k : Kind) (v : Values) (out : List ℕ) → 32 ∷ verdict_by k v out ≡ spaced (verdict_by k v out)
