@@ -1,7 +1,7 @@
 -- The sixteen field bytes, two numbers put from the back and then eight bytes stored one by one, are `field_bytes` laid to the front.
 -- By the frame crate's laws of bytes laid piece by piece. Assumes nothing.
 use Prim.Native.Nat.{ℕ, ◌+◌, ◌≤◌}
-use mathlib.Core.Path.{◌≡◌, refl, ap, sym, ◌∙◌}
+use mathlib.Core.Path.{◌≡◌, ap, sym, ◌∙◌}
 use mathlib.Core.List.{List, [], ◌∷◌, ◌++◌, append_assoc}
 use native.Mathlib.Omega.{arith}
 use lib.ListN.{length, get_or, take, drop, set, length-append}
@@ -67,7 +67,8 @@ fields_put s h start b n x o p q e f i g l lp lq u v =
     let size : h.size ≡ n = ap (λ (k : Header). k.size) e ∙ sym g in
     let same : h.version ∷ b ∷ h.kind ∷ get_or s 1 0 ∷ get_or s 2 0 ∷ get_or s 3 0 ∷ x ∷ 0 ∷ (bytes_be 4 n ++ bytes_be 4 h.message.0) ≡ field_bytes h start
     = rw (f, i, service, info, session, size) in
-    all_put h.version b h.kind (get_or s 1 0) (get_or s 2 0) (get_or s 3 0) x 0 (bytes_be 4 n) (bytes_be 4 h.message.0) o p q (length_be 4 n) (length_be 4 h.message.0) l lp lq u v
+    all_put h.version b h.kind (get_or s 1 0) (get_or s 2 0) (get_or s 3 0) x 0 (bytes_be 4 n) (bytes_be 4 h.message.0) o p q
+    (length_be 4 n) (length_be 4 h.message.0) l lp lq u v
     ∙ ap (λ (t : List ℕ). laid t o) same
 
 -- a number put at the message id's place
@@ -90,7 +91,8 @@ module _ (s : List ℕ) (v : ℕ) (m : MessageId) (is : m ≡ message_of s v) wh
       ap value_be all ∙ sym (ap (λ (x : MessageId). x.0) (is ∙ there))
 
 -- what the reader says of a frame's header
-pub header_there : (s : List ℕ) (h : Header) (e : Extent) → read_of s ≡ Frame h e → (header_size h.version ≤ length s) × (h ≡ with_message (front_of s) (message_of s h.version))
+pub header_there : (s : List ℕ) (h : Header) (e : Extent) → read_of s ≡ Frame h e
+    → (header_size h.version ≤ length s) × (h ≡ with_message (front_of s) (message_of s h.version))
 header_there s h e p =
     let f = is_frame_lem s h e p in
     let v : h.version ≡ (front_of s).version = ap (λ (k : Header). k.version) f.header in

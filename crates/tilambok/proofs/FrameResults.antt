@@ -1,6 +1,6 @@
 -- Every answer of the reader, the writers and the sender has room in its result; so the status tells which answer it was, and the value what goes with it.
 -- A frame's fields tell its header. By the tests of those functions, and by numbers written and read back. Assumes nothing.
-use Prim.Native.Nat.{ℕ, ◌+◌, ◌^◌, ◌≤◌, ◌<◌}
+use Prim.Native.Nat.{ℕ, ◌^◌, ◌≤◌, ◌<◌}
 use mathlib.Core.Path.{◌≡◌, refl, ap, sym, ◌∙◌}
 use mathlib.Core.Bool.{Bool, true, false, not, ◌||◌}
 use mathlib.Core.List.{List, [], ◌++◌, append_assoc}

@@ -1,16 +1,14 @@
--- The ways of the functions: the fields laid piece by piece, what is told of each answer of the reader, and the writer's result from its answer.
+-- The ways of the functions: the fields laid piece by piece, and what is told of each answer of the reader.
 -- Assumes nothing.
 use Prim.Native.Nat.{ℕ, ◌≤◌, ◌<◌}
 use mathlib.Core.Path.{◌≡◌, refl, ap, ◌∙◌, sym}
 use mathlib.Core.List.{List, [], ◌∷◌, ◌++◌}
 use native.Mathlib.Omega.{arith}
-use lib.ListN.{length, set, length-append, length-set}
+use lib.ListN.{length, set, length-append}
 use borrow.Author.Tests.{le-leb, lt-leb}
 use Rattle.numbers.specs.Bytes.{put_at, laid}
 use Rattle.numbers.specs.Numbers.{bytes_be}
 use Rattle.numbers.proofs.Laws.{length_be}
-use Rattle.frame.specs.Write.{Wrote, wrote}
-use Rattle.frame.specs.declared.Written.{Written}
 use Rattle.frame.proofs.Buffers.{four_stored, number_put}
 use Rattle.rpc.specs.Layout.{fields_of}
 use Rattle.rpc.specs.Read.{read_of}
@@ -21,14 +19,10 @@ use Rattle.rpc.specs.declared.Parts.{Parts}
 use Rattle.rpc.specs.declared.Reading.{Reading}
 use Rattle.rpc.specs.declared.Reading.TheVariants.{Message, Bare}
 use Rattle.rpc.proofs.Answers.{is_message, is_bare_lem}
-use Rattle.tilambok.specs.Status.{Result, done, Left, left}
-use Rattle.tilambok.specs.Payloads.{field_bytes, no_fields, told, read_in, written_from, answered_from}
+use Rattle.tilambok.specs.Status.{Result, done, left}
+use Rattle.tilambok.specs.Payloads.{field_bytes, no_fields, told, read_in}
 
--- four bytes stored
-pub stored_length : (o : List ℕ) (x y z w : ℕ) → length (set (set (set (set o 0 x) 1 y) 2 z) 3 w) ≡ length o
-stored_length o x y z w = simp length-set
-
--- and then three numbers put
+-- four bytes stored, and then three numbers put
 pub fields_put : (headed begins : ℕ) (f : Fields) (o q r s : List ℕ) → 16 ≤ length o
     → q ≡ put_at (set (set (set (set o 0 headed) 1 f.kind) 2 begins) 3 0) 4 4 (bytes_be 4 f.id)
     → r ≡ put_at q 8 4 (bytes_be 4 f.number)
@@ -74,13 +68,3 @@ as_bare form version s fields value x p f e g i =
     let r : read_of form version s ≡ Bare p = sym e ∙ g in
     let begins : p.json ≡ 0 = ap (λ (q : Parts). q.json) (is_bare_lem form version s p r).parts in
     rw (r, begins, i)
-
--- what is left in a form that the caller's form is
-pub in_form : (form known : Form) (version : ℕ) (s fields : List ℕ) (value : ℕ) {x : Left} → form ≡ known → x ≡ read_in known version s fields value
-    → x ≡ read_in form version s fields value
-in_form form known version s fields value e h = h ∙ ap (λ (f : Form). read_in f version s fields value) (sym e)
-
--- what the writer leaves, from the answer that it got
-pub as_written : (begins value : ℕ) (r : Result) (a b : Written) (o : List ℕ) (w : Wrote) → wrote a o ≡ w → a ≡ b → r ≡ written_from begins value b
-    → record { result = r; lent = o } ≡ answered_from begins value w
-as_written begins value r a b o w e f g = rw (g, ← f) (ap (answered_from begins value) e)

@@ -1,7 +1,7 @@
 -- What a C caller writes is read back by a C caller: header writer, frame writer, sender and frame reader. The user's second demand: "What you write is
 -- read back the same, save version 1's missing message id." Proved in proofs/ReadBack.
 -- Assumes nothing.
-use Rattle.std.specs.Prelude.{ℕ, ◌+◌, ◌^◌, ◌≤◌, ◌<◌, ◌≡◌, List, ◌++◌, length, take}
+use Rattle.std.specs.Prelude.{ℕ, ◌^◌, ◌≤◌, ◌<◌, ◌≡◌, List, ◌++◌, length, take}
 use Rattle.frame.specs.declared.Header.{Header}
 use Rattle.frame.specs.ReadBack.{as_read}
 use Rattle.sender.specs.declared.Outgoing.{Outgoing}

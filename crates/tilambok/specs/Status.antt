@@ -12,19 +12,19 @@ pub record Result : Type 0 where
   pub status : ℕ
   pub value : ℕ
 
-abbrev pub result : ℕ → ℕ → Result
-result s v = record { status = s; value = v }
+abbrev pub result_of : ℕ → ℕ → Result
+result_of s v = record { status = s; value = v }
 
 abbrev pub done : ℕ → Result
-done v = result 0 v
+done v = result_of 0 v
 
 -- "Short with the bytes needed in all"
 abbrev pub short : ℕ → Result
-short n = result 128 n
+short n = result_of 128 n
 
 -- "All leave everything unchanged": the lent number stays
 abbrev pub refused : ℕ → ℕ → Result
-refused value n = result n value
+refused value n = result_of n value
 
 -- what a call leaves: its result, and the bytes that were lent to be written
 pub record Left : Type 0 where
@@ -32,7 +32,7 @@ pub record Left : Type 0 where
   pub lent : List ℕ
 
 abbrev pub left : ℕ → List ℕ → ℕ → Left
-left s b v = record { result = result s v; lent = b }
+left s b v = record { result = result_of s v; lent = b }
 
 -- a writer's answer: done with the bytes written, or refused
 abbrev pub written_result : ℕ → Written → Result

@@ -4,7 +4,7 @@ ghost use Rattle.numbers.specs.Bytes.{pick, laid, put_at};
 ghost use Rattle.numbers.specs.Numbers.{bytes_be};
 ghost use Rattle.frame.specs.Rules.{header_size};
 ghost use Rattle.frame.specs.Read.{front_of, message_of, with_message};
-ghost use Rattle.tilambok.specs.Status.{result, left};
+ghost use Rattle.tilambok.specs.Status.{result_of, left};
 ghost use Rattle.tilambok.specs.Frames.{reading_result, ReadingFits, field_bytes, header_from, tilambok_read_frame, tilambok_write_header, tilambok_write_frame};
 
 use crate::status;
@@ -16,7 +16,7 @@ const FIELDS: usize = 16;
 // The reader's answer: done with the bytes consumed, refused, or Short with the bytes needed in all.
 fn reading_status(reading: Reading, value: &mut u32) -> u32
     requires { ReadingFits reading }
-    ensures* { λ r. ⌜ result r value.new ≡ reading_result value.old reading ⌝ }
+    ensures { result_of result value.new ≡ reading_result value.old reading }
 {
     match reading {
         Reading::Frame(_, extent) => status::done(extent.consumed as u32, value),
@@ -26,7 +26,7 @@ fn reading_status(reading: Reading, value: &mut u32) -> u32
 }
 
 fn flag_byte(flag: bool) -> u8
-    ensures* { λ r. ⌜ r ≡ pick flag 1 0 ⌝ }
+    ensures { result ≡ pick flag 1 0 }
 {
     if flag { 1 } else { 0 }
 }
@@ -34,7 +34,7 @@ fn flag_byte(flag: bool) -> u8
 // The message id's four bytes as they stand in the frame, or 0 where it has none.
 fn put_message(bytes: &[u8], header: Header, fields: &mut [u8])
     requires { (header_size header.version ≤ length bytes.now) × (header.message ≡ message_of bytes.now header.version) }
-    ensures* { λ _. ⌜ fields.new ≡ put_at fields.old 12 4 (bytes_be 4 header.message.0) ⌝ }
+    ensures { fields.new ≡ put_at fields.old 12 4 (bytes_be 4 header.message.0) }
 {
     if header.version == 1 {
         numbers::put_be4(fields, 12, 0);
@@ -47,7 +47,7 @@ fn put_message(bytes: &[u8], header: Header, fields: &mut [u8])
 // header, and the numbers come first: so the compiler moves each number at once, turns none around and keeps no byte of the header for it.
 fn put_fields(bytes: &[u8], header: Header, start: u8, fields: &mut [u8])
     requires { (8 ≤ length bytes.now) × ((16 ≤ length fields.old) × ((header_size header.version ≤ length bytes.now) × (header ≡ with_message (front_of bytes.now) (message_of bytes.now header.version)))) }
-    ensures* { λ _. ⌜ fields.new ≡ laid (field_bytes header start) fields.old ⌝ }
+    ensures { fields.new ≡ laid (field_bytes header start) fields.old }
 {
     put_message(bytes, header, fields);
     numbers::put_be4(fields, 8, numbers::be4(bytes, 4));
@@ -72,7 +72,7 @@ fn header_from(
     size: u32,
     message: u32,
 ) -> Header
-    ensures* { λ r. ⌜ r ≡ header_from version flag kind service info session size message ⌝ }
+    ensures { result ≡ header_from version flag kind service info session size message }
 {
     Header {
         version,
@@ -89,7 +89,7 @@ fn header_from(
 // What stands at the front of bytes; a frame's fields go to the front of fields.
 #[unsafe(no_mangle)]
 pub extern "C" fn tilambok_read_frame(bytes: &[u8], fields: &mut [u8], value: &mut u32) -> u32
-    ensures* { λ r. ⌜ left r fields.new value.new ≡ tilambok_read_frame bytes.now fields.old value.old ⌝ }
+    ensures { left result fields.new value.new ≡ tilambok_read_frame bytes.now fields.old value.old }
 {
     let reading = frame::read(bytes);
     let Reading::Frame(header, extent) = reading else {
@@ -118,7 +118,7 @@ pub extern "C" fn tilambok_write_header(
     out: &mut [u8],
     value: &mut u32,
 ) -> u32
-    ensures* { λ r. ⌜ left r out.new value.new ≡ tilambok_write_header (header_from version flag kind service info session size message) out.old value.old ⌝ }
+    ensures { left result out.new value.new ≡ tilambok_write_header (header_from version flag kind service info session size message) out.old value.old }
 {
     let header = header_from(version, flag, kind, service, info, session, size, message);
     status::written(frame::write_header(header, out), value)
@@ -139,7 +139,7 @@ pub extern "C" fn tilambok_write_frame(
     out: &mut [u8],
     value: &mut u32,
 ) -> u32
-    ensures* { λ r. ⌜ left r out.new value.new ≡ tilambok_write_frame (header_from version flag kind service info session size message) payload.now out.old value.old ⌝ }
+    ensures { left result out.new value.new ≡ tilambok_write_frame (header_from version flag kind service info session size message) payload.now out.old value.old }
 {
     let header = header_from(version, flag, kind, service, info, session, size, message);
     status::written(frame::write(header, payload, out), value)

@@ -2,7 +2,7 @@
 ghost use Rattle.std.specs.Prelude.{◌≡◌, ◌≤◌, length};
 ghost use Rattle.numbers.specs.Bytes.{laid};
 ghost use Rattle.rpc.specs.Layout.{header_of};
-ghost use Rattle.tilambok.specs.Status.{result, left};
+ghost use Rattle.tilambok.specs.Status.{result_of, left};
 ghost use Rattle.tilambok.specs.Payloads.{form_from, form_result, fields_from, field_bytes, no_fields, told, read_in, start, write_in, tilambok_read_rpc, tilambok_write_rpc, tilambok_rpc_form};
 
 use crate::status;
@@ -17,7 +17,7 @@ const FIELDS: usize = 16;
 
 // The form that a caller's number names.
 fn form_from(number: u8) -> Carried
-    ensures* { λ r. ⌜ r ≡ form_from number ⌝ }
+    ensures { result ≡ form_from number }
 {
     if number == 0 {
         return Carried::InForm(Form::Rpc);
@@ -32,7 +32,7 @@ fn form_from(number: u8) -> Carried
 }
 
 fn form_status(carried: Carried, value: &mut u32) -> u32
-    ensures* { λ r. ⌜ result r value.new ≡ form_result value.old carried ⌝ }
+    ensures { result_of result value.new ≡ form_result value.old carried }
 {
     match carried {
         Carried::InForm(form) => match form {
@@ -47,7 +47,7 @@ fn form_status(carried: Carried, value: &mut u32) -> u32
 // The form that the messages of a service have.
 #[unsafe(no_mangle)]
 pub extern "C" fn tilambok_rpc_form(service: u8, value: &mut u32) -> u32
-    ensures* { λ r. ⌜ result r value.new ≡ tilambok_rpc_form service value.old ⌝ }
+    ensures { result_of result value.new ≡ tilambok_rpc_form service value.old }
 {
     form_status(rpc::form_of(ServiceType(service)), value)
 }
@@ -55,7 +55,7 @@ pub extern "C" fn tilambok_rpc_form(service: u8, value: &mut u32) -> u32
 // The fields of a payload to the front of fields: whether it has a header, its type, where the JSON begins, and the header's numbers.
 fn put_fields(headed: u8, begins: u8, f: Fields, fields: &mut [u8])
     requires { 16 ≤ length fields.old }
-    ensures* { λ _. ⌜ fields.new ≡ laid (field_bytes headed begins f) fields.old ⌝ }
+    ensures { fields.new ≡ laid (field_bytes headed begins f) fields.old }
 {
     fields[0] = headed;
     fields[1] = f.kind;
@@ -68,7 +68,7 @@ fn put_fields(headed: u8, begins: u8, f: Fields, fields: &mut [u8])
 
 // The same where there is room, and the call's result.
 fn tell(headed: u8, begins: u8, f: Fields, fields: &mut [u8], value: &mut u32) -> u32
-    ensures* { λ r. ⌜ left r fields.new value.new ≡ told headed begins f fields.old value.old ⌝ }
+    ensures { left result fields.new value.new ≡ told headed begins f fields.old value.old }
 {
     if fields.len() < FIELDS {
         return status::refused(frame::refusal::OUT_TOO_SMALL);
@@ -80,7 +80,7 @@ fn tell(headed: u8, begins: u8, f: Fields, fields: &mut [u8], value: &mut u32) -
 
 // The fields of a payload without a header are 0.
 fn no_fields() -> Fields
-    ensures* { λ r. ⌜ r ≡ no_fields ⌝ }
+    ensures { result ≡ no_fields }
 {
     Fields {
         kind: 0,
@@ -92,7 +92,7 @@ fn no_fields() -> Fields
 
 // A payload in this form.
 fn read_in(form: Form, version: u8, payload: &[u8], fields: &mut [u8], value: &mut u32) -> u32
-    ensures* { λ r. ⌜ left r fields.new value.new ≡ read_in form version payload.now fields.old value.old ⌝ }
+    ensures { left result fields.new value.new ≡ read_in form version payload.now fields.old value.old }
 {
     match rpc::read(form, version, payload) {
         Reading::Message(header, size, _) => tell(
@@ -109,7 +109,7 @@ fn read_in(form: Form, version: u8, payload: &[u8], fields: &mut [u8], value: &m
 
 // The same, each form by a call of its own: so the compiler makes a way for each, with its constants.
 fn read_known(form: Form, version: u8, payload: &[u8], fields: &mut [u8], value: &mut u32) -> u32
-    ensures* { λ r. ⌜ left r fields.new value.new ≡ read_in form version payload.now fields.old value.old ⌝ }
+    ensures { left result fields.new value.new ≡ read_in form version payload.now fields.old value.old }
 {
     match form {
         Form::Rpc => read_in(Form::Rpc, version, payload, fields, value),
@@ -127,7 +127,7 @@ pub extern "C" fn tilambok_read_rpc(
     fields: &mut [u8],
     value: &mut u32,
 ) -> u32
-    ensures* { λ r. ⌜ left r fields.new value.new ≡ tilambok_read_rpc form version payload.now fields.old value.old ⌝ }
+    ensures { left result fields.new value.new ≡ tilambok_read_rpc form version payload.now fields.old value.old }
 {
     match form_from(form) {
         Carried::InForm(known) => read_known(known, version, payload, fields, value),
@@ -137,7 +137,7 @@ pub extern "C" fn tilambok_read_rpc(
 
 // The header that a caller's numbers describe.
 fn header_from(form: Form, kind: u8, id: u32, number: u32, size: u32) -> Header
-    ensures* { λ r. ⌜ r ≡ header_of form (fields_from kind id number size) ⌝ }
+    ensures { result ≡ header_of form (fields_from kind id number size) }
 {
     rpc::header_of(
         form,
@@ -152,7 +152,7 @@ fn header_from(form: Form, kind: u8, id: u32, number: u32, size: u32) -> Header
 
 // Where the JSON begins: behind the header, which RPC at version 1 does not have.
 fn start_of(form: Form, version: u8) -> u8
-    ensures* { λ r. ⌜ r ≡ start form version ⌝ }
+    ensures { result ≡ start form version }
 {
     if rpc::is_bare(form, version) {
         return 0;
@@ -171,7 +171,7 @@ fn write_in(
     out: &mut [u8],
     value: &mut u32,
 ) -> u32
-    ensures* { λ r. ⌜ left r out.new value.new ≡ write_in form version header size json.now bulk.now out.old value.old ⌝ }
+    ensures { left result out.new value.new ≡ write_in form version header size json.now bulk.now out.old value.old }
 {
     match rpc::write(version, header, size, json, bulk, out) {
         Written::Bytes(_) => status::done(start_of(form, version) as u32, value),
@@ -193,7 +193,7 @@ pub extern "C" fn tilambok_write_rpc(
     out: &mut [u8],
     value: &mut u32,
 ) -> u32
-    ensures* { λ r. ⌜ left r out.new value.new ≡ tilambok_write_rpc form version (fields_from kind id number size) json.now bulk.now out.old value.old ⌝ }
+    ensures { left result out.new value.new ≡ tilambok_write_rpc form version (fields_from kind id number size) json.now bulk.now out.old value.old }
 {
     match form_from(form) {
         Carried::InForm(known) => write_in(

@@ -1,7 +1,7 @@
 // What every exported function answers: a status, and a value through a number that the caller lends.
 // A refusal is document 01's own number, and its value is left alone. So a status that is cut to an `int` or to one byte is still no success.
 ghost use Rattle.std.specs.Prelude.{◌≡◌};
-ghost use Rattle.tilambok.specs.Status.{result, done, short, written_result, WrittenFits};
+ghost use Rattle.tilambok.specs.Status.{result_of, done, short, written_result, WrittenFits};
 
 use frame::Written;
 
@@ -10,14 +10,14 @@ pub const DONE: u32 = 0;
 const SHORT: u32 = 128;
 
 pub fn done(told: u32, value: &mut u32) -> u32
-    ensures* { λ r. ⌜ result r value.new ≡ done told ⌝ }
+    ensures { result_of result value.new ≡ done told }
 {
     *value = told;
     DONE
 }
 
 pub fn short(needed: u32, value: &mut u32) -> u32
-    ensures* { λ r. ⌜ result r value.new ≡ short needed ⌝ }
+    ensures { result_of result value.new ≡ short needed }
 {
     *value = needed;
     SHORT
@@ -25,7 +25,7 @@ pub fn short(needed: u32, value: &mut u32) -> u32
 
 // The lent number is not handed in: a refusal leaves it as it is.
 pub fn refused(number: u8) -> u32
-    ensures* { λ r. ⌜ r ≡ number ⌝ }
+    ensures { result ≡ number }
 {
     number as u32
 }
@@ -33,7 +33,7 @@ pub fn refused(number: u8) -> u32
 // A writer's answer, with the bytes written as its value.
 pub fn written(answer: Written, value: &mut u32) -> u32
     requires { WrittenFits answer }
-    ensures* { λ r. ⌜ result r value.new ≡ written_result value.old answer ⌝ }
+    ensures { result_of result value.new ≡ written_result value.old answer }
 {
     match answer {
         Written::Bytes(count) => done(count as u32, value),
