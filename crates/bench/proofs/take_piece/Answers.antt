@@ -1,5 +1,5 @@
 -- Each turn answers the line up to the next newline, behind what was kept, and passes that newline.
-use Rattle.std.proofs.Common.{◌≡◌, ℕ, ◌+◌, ◌-◌, ◌++◌, length, take, drop, sym, ap, ◌∙◌, refl, arith, rules}
+use Rattle.std.proofs.Common.{ℕ, ◌-◌, ◌++◌, length, take, drop, sym, ap, ◌∙◌, refl, arith, rules}
 use Rattle.bench.specs.Pieces.{run_of, kept_after}
 use Rattle.bench.proofs.Pieces.{ends_at, line_taken, line_passed, kept-passed, lines-over, kept-over}
 use Rattle.bench.proofs.take_piece.Goals as goal
