@@ -1,16 +1,10 @@
--- The answers to the commands that need no link: a frame that was read, the out buffer that is lent, and what is inside a message, read or written. Assumes nothing.
-use Rattle.std.proofs.Common.{◌≡◌, ℕ, ◌+◌, ◌-◌, min, List, length, take, drop, sym, ap, ◌∙◌, subst, arith, length-drop, take_all}
+-- The answers to the commands that need no link: the out buffer that is lent, and what is inside a message, read or written. Assumes nothing.
+use Rattle.std.proofs.Common.{◌≡◌, ℕ, ◌-◌, min, List, length, take, drop, sym, ap, ◌∙◌, arith, length-drop, take_all}
 use lib.ListN.{length-replicate}
 use Rattle.numbers.specs.Bytes.{part}
 use Rattle.text.specs.declared.Text.{Text}
-use Rattle.text.specs.Pieces.{fitting, put_into}
 use Rattle.text.specs.Said.{said, Started}
 use Rattle.text.proofs.Lists.{take_min}
-use Rattle.frame.specs.declared.Header.{Header}
-use Rattle.frame.specs.declared.Extent.{Extent}
-use Rattle.frame.specs.declared.Reading.{Reading}
-use Rattle.frame.specs.declared.Reading.TheVariants.{Frame}
-use Rattle.frame.specs.Read.{read_of}
 use Rattle.frame.specs.Write.{Wrote}
 use Rattle.words.specs.declared.Command.{Command}
 use Rattle.rpc.specs.declared.Form.{Form}
@@ -21,17 +15,8 @@ use Rattle.rpc.specs.declared.Reading.TheVariants.{Message, Bare}
 use Rattle.rpc.specs.Layout as layout
 use Rattle.rpc.specs.Read as rpcRead
 use Rattle.rpc.specs.Write as rpcWrite
-use Rattle.driver.specs.Spelling.{Holds, parts_behind}
-use Rattle.driver.specs.Answers.{byte_at, wide_at, untouched_out, frame_line, read_by, form_at, message_header, rpc_wrote_by, fields_text, bare_text, rpc_by, rpc_answer}
-
--- a frame was read, and its payload p put to the front of the out buffer
-module _ (input out : List ℕ) {a : Reading} {h : Header} {x : Extent} (read : a ≡ read_of input) (told : a ≡ Frame h x) where
-  pub frame_read : {p after : List ℕ} {n : ℕ} {r : Text} → p ≡ part input x.start (x.end - x.start) → n ≡ min 0 (length out) + length (fitting out 0 p) → after ≡ put_into out 0 p
-      → Holds (frame_line h x.consumed n) r → Holds (read_by input out (read_of input)).line r × (after ≡ (read_by input out (read_of input)).out)
-  frame_read {p} {after} {n} {r} i j k f =
-      let e : read_of input ≡ Frame h x = sym read ∙ told in
-      let m : n ≡ length (fitting out 0 p) = omega (arith, j) in
-      rw (e, ← i) (subst (λ (l : ℕ). Holds (frame_line h x.consumed l) r) m f, k)
+use Rattle.driver.specs.Spelling.{parts_behind}
+use Rattle.driver.specs.Answers.{byte_at, wide_at, untouched_out, form_at, message_header, rpc_wrote_by, fields_text, bare_text, rpc_by, rpc_answer}
 
 -- the out buffer's length
 untouched_length : length untouched_out ≡ 131084

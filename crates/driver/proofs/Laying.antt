@@ -42,25 +42,25 @@ module _ {t e : Text} (ended : Longer t (10 ∷ []) e) (out line : List ℕ) (ro
     first_fits : 0 + length a ≤ length line
     first_fits = omega (arith, first_short, short)
 
-    pub first-put : {n : ℕ} {p : List ℕ} → n ≡ min 0 (length line) + length (fitting line 0 a) → p ≡ put_into line 0 a → Appended 0 a line n p
-    first-put f g = all_put a line 0 first_fits f g
+    pub first_put : {n : ℕ} {p : List ℕ} → n ≡ min 0 (length line) + length (fitting line 0 a) → p ≡ put_into line 0 a → Appended 0 a line n p
+    first_put f g = all_put a line 0 first_fits f g
 
     -- the bytes that are spelled
     module _ {b : List ℕ} (spelled : b ≡ take (min e.size 131084) out) {n : ℕ} {p : List ℕ} (kept : length p ≡ length line) (first : Appended 0 a line n p) where
-      spelled-few : length b ≤ 131084
-      spelled-few = omega (arith, ap length spelled, length-take (min e.size 131084) out)
+      spelled_few : length b ≤ 131084
+      spelled_few = omega (arith, ap length spelled, length-take (min e.size 131084) out)
 
-      pub digits-fit : n + 2 * length b ≤ length p
-      digits-fit = omega (arith, first.ends, first_short, short, spelled-few)
+      pub digits_fit : n + 2 * length b ≤ length p
+      digits_fit = omega (arith, first.ends, first_short, short, spelled_few)
 
       -- the characters behind them
-      pub line-laid : {m r : ℕ} {q w d : List ℕ} → length q ≡ length p → Appended n (hex_of b) p m q → d ≡ part s e.cut (length s)
+      pub line_laid : {m r : ℕ} {q w d : List ℕ} → length q ≡ length p → Appended n (hex_of b) p m q → d ≡ part s e.cut (length s)
           → r ≡ min m (length q) + length (fitting q m d) → w ≡ put_into q m d → take r w ≡ text_line t out
-      line-laid {m} {r} {q} {w} {d} k digits behind f g =
+      line_laid {m} {r} {q} {w} {d} k digits behind f g =
           let rest : d ≡ drop e.cut s = behind ∙ take_all (length s) (drop e.cut s) (omega (arith, length-drop e.cut s)) in
-          let room-d : m + length d ≤ length q = omega (arith, first.ends, digits.ends, ap length front, ap length rest, length-take e.cut s, length-drop e.cut s, length_hex b, spelled-few, short) in
-          let room-b : n + length (hex_of b) ≤ length p = omega (arith, digits-fit, length_hex b) in
-          let whole = laid_front (more a (hex_of b ++ d) first_fits first (more (hex_of b) d room-b digits (all_put d q m room-d f g))) in
+          let room_d : m + length d ≤ length q = omega (arith, first.ends, digits.ends, ap length front, ap length rest, length-take e.cut s, length-drop e.cut s, length_hex b, spelled_few, short) in
+          let room_b : n + length (hex_of b) ≤ length p = omega (arith, digits_fit, length_hex b) in
+          let whole = laid_front (more a (hex_of b ++ d) first_fits first (more (hex_of b) d room_b digits (all_put d q m room_d f g))) in
           whole ∙ rw (front, rest, spelled, all, ended.cut, ended.size, ended.says) refl
 
 -- ---- bytes as a word
@@ -71,9 +71,6 @@ word_length b =
     rw (ne_eqb (length b) 0 e) (omega (arith, length_hex b))
 
 module _ (b o : List ℕ) (at : ℕ) (room : at + (2 + 2 * length b) ≤ length o) where
-  pub none_put : {n : ℕ} {q : List ℕ} → length b ≡ 0 → n ≡ min at (length o) + length (fitting o at (32 ∷ 45 ∷ [])) → q ≡ put_into o at (32 ∷ 45 ∷ []) → Appended at (word_text b) o n q
-  none_put e f g = rw (eq-eqb (length b) 0 e) (all_put (32 ∷ 45 ∷ []) o at (omega arith) f g)
-
   pub space_put : {n : ℕ} {p : List ℕ} → n ≡ min at (length o) + length (fitting o at (32 ∷ [])) → p ≡ put_into o at (32 ∷ []) → Appended at (32 ∷ []) o n p
   space_put f g = all_put (32 ∷ []) o at (omega arith) f g
 
@@ -94,22 +91,22 @@ module _ (payload : List ℕ) (parts : Parts) (few : length payload ≤ 150000) 
   text_put f g = all_put a line 0 (omega arith) f g
 
   module _ {n : ℕ} {p : List ℕ} (kept : length p ≡ length line) (text : Appended 0 a line n p) {j : List ℕ} (json : j ≡ json_part payload parts) where
-    pub json-fits : n + (2 + 2 * length j) ≤ length p
-    json-fits = omega (arith, text.ends, ap length json, parts_within payload parts)
+    pub json_fits : n + (2 + 2 * length j) ≤ length p
+    json_fits = omega (arith, text.ends, ap length json, parts_within payload parts)
 
-    module _ {m : ℕ} {q : List ℕ} (kept-q : length q ≡ length p) (first : Appended n (word_text j) p m q) {k : List ℕ} (bulk : k ≡ bulk_part payload parts) where
-      pub bulk-fits : m + (2 + 2 * length k) ≤ length q
-      bulk-fits = omega (arith, text.ends, first.ends, word_length j, ap length json, ap length bulk, parts_within payload parts)
+    module _ {m : ℕ} {q : List ℕ} (kept_q : length q ≡ length p) (first : Appended n (word_text j) p m q) {k : List ℕ} (bulk : k ≡ bulk_part payload parts) where
+      pub bulk_fits : m + (2 + 2 * length k) ≤ length q
+      bulk_fits = omega (arith, text.ends, first.ends, word_length j, ap length json, ap length bulk, parts_within payload parts)
 
       -- all of it, and the newline
-      pub parts-laid : {i e : ℕ} {r w : List ℕ} → length r ≡ length q → Appended m (word_text k) q i r → e ≡ min i (length r) + length (fitting r i (10 ∷ [])) → w ≡ put_into r i (10 ∷ [])
+      pub parts_laid : {i e : ℕ} {r w : List ℕ} → length r ≡ length q → Appended m (word_text k) q i r → e ≡ min i (length r) + length (fitting r i (10 ∷ [])) → w ≡ put_into r i (10 ∷ [])
           → take e w ≡ parts_behind a payload parts
-      parts-laid {i} {e} {r} {w} kept-r second f g =
+      parts_laid {i} {e} {r} {w} kept_r second f g =
           let total = parts_within payload parts in
-          let room-end : i + length {A = ℕ} (10 ∷ []) ≤ length r = omega (arith, text.ends, first.ends, second.ends, word_length j, word_length k, ap length json, ap length bulk, total) in
-          let room-k : m + length (word_text k) ≤ length q = omega (arith, bulk-fits, word_length k) in
-          let room-j : n + length (word_text j) ≤ length p = omega (arith, json-fits, word_length j) in
-          let room-a : 0 + length a ≤ length line = omega arith in
-          let end = all_put (10 ∷ []) r i room-end f g in
-          let whole = more a (word_text j ++ (word_text k ++ 10 ∷ [])) room-a text (more (word_text j) (word_text k ++ 10 ∷ []) room-j first (more (word_text k) (10 ∷ []) room-k second end)) in
+          let room_end : i + length {A = ℕ} (10 ∷ []) ≤ length r = omega (arith, text.ends, first.ends, second.ends, word_length j, word_length k, ap length json, ap length bulk, total) in
+          let room_k : m + length (word_text k) ≤ length q = omega (arith, bulk_fits, word_length k) in
+          let room_j : n + length (word_text j) ≤ length p = omega (arith, json_fits, word_length j) in
+          let room_a : 0 + length a ≤ length line = omega arith in
+          let end = all_put (10 ∷ []) r i room_end f g in
+          let whole = more a (word_text j ++ (word_text k ++ 10 ∷ [])) room_a text (more (word_text j) (word_text k ++ 10 ∷ []) room_j first (more (word_text k) (10 ∷ []) room_k second end)) in
           laid_front whole ∙ rw (json, bulk) refl

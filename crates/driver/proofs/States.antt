@@ -26,9 +26,6 @@ use Rattle.driver.specs.States.{blocks_from, message_text, service_at, messages_
 pub chosen : {t r : Text} {x : List ℕ} (y : List ℕ) {b : Bool} → b ≡ true → Longer t x r → Longer t (pick b x y) r
 chosen {x = x} y e f = renamed (sym (ap (λ (c : Bool). pick c x y) e)) f
 
-pub unchosen : {t r : Text} (x : List ℕ) {y : List ℕ} {b : Bool} → b ≡ false → Longer t y r → Longer t (pick b x y) r
-unchosen x {y} e f = renamed (sym (ap (λ (c : Bool). pick c x y) e)) f
-
 -- ---- a list that began behind t
 
 -- the parts so far, and the text that has them: t itself while nothing was done

@@ -6,12 +6,9 @@ use Rattle.text.specs.Said.{Started, Longer}
 use Rattle.words.specs.declared.Command.{Command}
 use Rattle.payload.specs.declared.version.Version.{Version}
 use Rattle.link.specs.declared.Grant.{Grant}
-use Rattle.link.specs.declared.Answer.{Answer}
-use Rattle.link.specs.declared.Answer.TheVariants as answer
-use Rattle.link.specs.Values.{values_of}
 use Rattle.state.specs.Layout.{link_of}
 use Rattle.state.specs.Calls.{call_in, Told, told_of, Made, create_in}
-use Rattle.driver.specs.Spelling.{Holds, with_hex, letter_and, text_line}
+use Rattle.driver.specs.Spelling.{Holds, text_line}
 use Rattle.driver.specs.Answers.{untouched_out, lent_out, wide_at}
 use Rattle.driver.specs.States.{state_text}
 use Rattle.driver.specs.Turns.{Left, leaving, pool_from, new_pool, version_of, created_text, new_by, new_of, grant_of, answer_line, checks_text, called_by, called_of}
@@ -20,9 +17,6 @@ use Rattle.driver.proofs.Spelling.{held, held_more, line_held}
 
 -- the loop that fills a pool: what is filled, followed by what is to come
 module _ (pool : List ℕ) (next i n : ℕ) (all : length pool ≡ n) where
-  pub pool_start : take 0 pool ++ pool_from next (n - 0) ≡ pool_from next n
-  pool_start = let z : n - 0 ≡ n = omega arith in rw z
-
   pub pool_turn : i < n → take (i + 1) (set pool i next) ++ pool_from ((next + 7) % 256) (n - (i + 1)) ≡ take i pool ++ pool_from next (n - i)
   unfolding pool_from
   pool_turn h =
@@ -35,24 +29,6 @@ module _ (pool : List ℕ) (next i n : ℕ) (all : length pool ≡ n) where
   pool_end h =
       let z : n - i ≡ 0 = omega arith in
       rw (z, append-nil) (take_all i pool (omega arith))
-
--- the text of an answer, by its cases
-pub answer_held : {a b : Answer} {r : Text} → a ≡ b → Holds (answer_line (values_of b)) r → Holds (answer_line (values_of a)) r
-answer_held e h = rw e h
-
--- three answers are replies; n and k are what they bind
-module _ {r : Text} {n k m l : ℕ} (h : Holds (with_hex (letter_and 87 n) k) r) (p : n ≡ m) (q : k ≡ l) where
-  reply_held : Holds (with_hex (letter_and 87 m) l) r
-  reply_held = rw (← p, ← q) h
-
-  pub acked_held : {a : Answer} → a ≡ answer.Acked m l → Holds (answer_line (values_of a)) r
-  acked_held e = answer_held e reply_held
-
-  pub nacked_held : {a : Answer} → a ≡ answer.Nacked m l → Holds (answer_line (values_of a)) r
-  nacked_held e = answer_held e reply_held
-
-  pub beat_held : {a : Answer} → a ≡ answer.Beat m l → Holds (answer_line (values_of a)) r
-  beat_held e = answer_held e reply_held
 
 -- what `new` leaves
 pub new_is : (c : Command) (state pool : List ℕ) {v : Version} {mtu : ℕ} {m : Made} {p w : List ℕ} {t : Text}

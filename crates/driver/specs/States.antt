@@ -1,5 +1,5 @@
 -- The open sessions of a link as text: docs/DRIVER.md, "STATE". Assumes nothing.
-use Rattle.std.specs.Prelude.{ℕ, zero, suc, ◌+◌, List, [], ◌∷◌, ◌++◌, ◌==◌, nat_lt, slice_index, slice_index_or}
+use Rattle.std.specs.Prelude.{ℕ, zero, suc, List, [], ◌∷◌, ◌++◌, ◌==◌, nat_lt, slice_index, slice_index_or}
 use Rattle.numbers.specs.Bytes.{pick}
 use Rattle.lines.specs.Hex.{hex_of}
 use Rattle.lines.specs.Decimal.{decimal_of}

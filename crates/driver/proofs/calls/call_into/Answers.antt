@@ -1,0 +1,12 @@
+-- `driver::calls::call_into` meets its contract: what the call left, spelled.
+-- Assumes nothing.
+use Rattle.driver.proofs.Turns.{call_is}
+use Rattle.driver.proofs.calls.call_into.Goals as goal
+
+pub returns : goal.returns
+returns c =
+    let a = c.args in
+    call_is a.command a.input.now a.link.now a.pool.now a.out.now
+    c.grant_of.ensures
+    c.call-answer.ensures
+    c.spell_called.ensures
