@@ -1,39 +1,23 @@
 -- Laws of the definitions: the next place, one call more and none any more, the two stretches of a script, and a number and a newline as a text. By the laws of
 -- take and drop. Assumes nothing.
-use Rattle.std.proofs.Common.{◌≡◌, ℕ, suc, ◌+◌, ◌-◌, ◌%◌, ◌^◌, ◌<◌, ◌≤◌, min, Bool, ltb, List, [], ◌∷◌, ◌++◌, length, take, drop, replicate, sym, ap, ◌∙◌, arith, length-append, length-drop, take_all, le-ltb, lt-ltb}
-use mir.Val.{bool_byte}
-use Rattle.numbers.specs.Bytes.{pick, part}
-use Rattle.numbers.proofs.Choices.{either, bit_is}
+use Rattle.std.proofs.Common.{◌≡◌, ℕ, suc, ◌+◌, ◌-◌, ◌^◌, ◌<◌, ◌≤◌, min, ltb, List, [], ◌∷◌, ◌++◌, length, take, drop, replicate, sym, ap, ◌∙◌, arith, length-append, length-drop, take_all}
+use Rattle.numbers.specs.Bytes.{part}
+use Rattle.numbers.proofs.Choices.{either}
 use Rattle.lines.specs.Decimal.{decimal_of}
 use Rattle.lines.proofs.Digits.{width_most}
 use Rattle.text.proofs.Lists.{take_min, drop_min}
 use Rattle.text.specs.declared.Text.{Text}
 use Rattle.text.specs.Said.{said, Started, Longer}
 use Rattle.link.specs.declared.Grant.{Grant}
-use Rattle.link.specs.Values.{Values, accepted}
 use Rattle.state.specs.Calls.{call_in, Told, told_of}
 use Rattle.pace.specs.Pace.{counted_of, offered, behind_of, next_of, places_in, Left, left, counting, after_call, run_from, beginning, longest, number_at, size_at, opening, again, script_of, line_of, empty_buffer, empty_state, answer_of}
 
 -- ---- places
 
-module _ (at size n : ℕ) where
-  module _ {p : ℕ} (e : p ≡ behind_of at size n) where
-    pub next-on : p < n → p ≡ next_of at size n
-    next-on h = e ∙ rw (lt-ltb (behind_of at size n) n (omega (arith, e, h)))
-
-    pub next-first : n ≤ p → 0 ≡ next_of at size n
-    next-first h = rw (le-ltb (behind_of at size n) n (omega (arith, e, h)))
-
-  pub next_within : next_of at size n ≤ n
-  next_within = either (λ p. p ≤ n) (ltb (behind_of at size n) n) (behind_of at size n) 0 (λ _. omega arith) (λ _. omega arith)
+pub next_within : (at size n : ℕ) → next_of at size n ≤ n
+next_within at size n = either (λ p. p ≤ n) (ltb (behind_of at size n) n) (behind_of at size n) 0 (λ _. omega arith) (λ _. omega arith)
 
 -- ---- call after call
-
--- an answer, as the code counts it
-pub counts : {b : Bool} (n : ℕ) (v : Values) → b ≡ accepted v → (n + bool_byte b) % 2 ^ 64 ≡ counted_of n v
-counts {b} n v e =
-    let z : ◌≡◌ {A = ℕ} (bool_byte b) (pick (accepted v) 1 0) = bit_is b ∙ ap (λ (x : Bool). pick {A = ℕ} x 1 0) e in
-    ap (λ (k : ℕ). (n + k) % 2 ^ 64) z
 
 -- what one call leaves, as the code has it
 pub call_taken : {t : Told} {q : List ℕ} {n : ℕ} {g : Grant} (places : List ℕ) (at count : ℕ) (state pool out : List ℕ)
