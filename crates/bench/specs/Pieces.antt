@@ -1,5 +1,5 @@
 -- The program over a piece of its input: the lines that end in it, what they leave, and what is kept of the line that goes on in the next piece.
--- What the system reads and writes is in no contract of the kit: of that the definitions say nothing. Assumes nothing.
+-- What a read brings and what a write hands over is said by `streams`, and of one flush by `Passed`; of a whole run nothing is. Assumes nothing.
 use Rattle.std.specs.Prelude.{ℕ, ◌+◌, ◌-◌, ◌≡◌, true, false, ◌&&◌, List, [], ◌∷◌, ◌++◌, eqb, leb, length, take, drop}
 use Rattle.std.specs.declared.option.Option.{Option}
 use Rattle.std.specs.Io.KnownBytes.{Keeps, Appends}

@@ -1,5 +1,5 @@
 -- What the benchmark's program answers: places gone over call by call, how many calls were accepted, and all that a script of such calls leaves.
--- What the system reads and writes is in no contract of the kit: of that the definitions say nothing. Assumes nothing.
+-- What is read and written is said by `streams`; of a whole run nothing is. Assumes nothing.
 use Rattle.std.specs.Prelude.{ℕ, zero, suc, ◌+◌, ◌/◌, ◌%◌, ◌^◌, min, max, List, [], ◌∷◌, ◌++◌, length, drop, replicate, ◌==◌, nat_lt}
 use Rattle.numbers.specs.Bytes.{pick, part}
 use Rattle.numbers.specs.Numbers.{value_be}
