@@ -1,27 +1,23 @@
 -- Pieces of the input: what the end of a line makes of the lines and of what is kept, that a line cut behind 3,001 characters is answered as the
 -- whole one, and that it makes no difference how the input comes in pieces. By induction over a piece and over its lines. Assumes nothing.
-use Prim.Native.Nat.{ℕ, suc, ◌+◌, ◌-◌, ◌≤◌, ◌<◌, min}
+use Prim.Native.Nat.{ℕ, suc, ◌+◌, ◌≤◌, ◌<◌}
 use mathlib.Core.Path.{◌≡◌, refl, ap, ◌∙◌, sym, subst}
 use mathlib.Core.Bool.{false}
 use mathlib.Core.List.{List, [], ◌∷◌, ◌++◌, append-nil, append_assoc}
 use native.Mathlib.Omega.{arith}
+use Rattle.std.proofs.Common.{None, add-one}
 use lib.Dec.{eqb, leb}
-use lib.ListN.{length, take, drop, length-take, length-drop, length-append, drop_of_length-le}
-use lib.Seq.{take_all, drop-drop}
-use borrow.Rule.Slice.PartMut.{mid_of, put_mid}
+use lib.ListN.{length, take, drop, length-take, length-append}
+use lib.Seq.{take_all}
 use borrow.Author.Tests.{leb-true, leb-false, le-leb, lt-leb}
 use Rattle.numbers.specs.Bytes.{unless, laid}
 use Rattle.numbers.proofs.Choices.{split, either, unless_elim}
-use Rattle.numbers.proofs.Slices.{rest_lent}
 use Rattle.lines.specs.Hex.{bytes_of}
 use Rattle.lines.specs.Newline.{line_length, line_end_of}
 use Rattle.state.specs.Calls.{call_in, told_of}
-use Rattle.text.specs.Pieces.{fitting, put_into}
-use Rattle.text.proofs.Lists.{put_front}
-use Rattle.benchline.specs.declared.Output.TheVariants.{Full}
 use Rattle.benchline.specs.declared.Turn.{Turn}
 use Rattle.benchline.specs.Line.{Left, leaving, left, most_digits, most_text, is_taken, letter_x, next_of, text_of, verdict_of, offer, refused_line, line_of}
-use Rattle.bench.specs.Pieces.{most_kept, size_of, run_of, written, waiting_before, joined, answered_at, after_line, Run, after_lines, lines_in, kept_after}
+use Rattle.bench.specs.Pieces.{most_kept, IsText, size_of, waiting_before, joined, answered_at, after_line, Run, after_lines, lines_in, kept_after}
 
 -- one character of a line
 grows : (kept : List ℕ) (b : ℕ) (s : List ℕ) → (kept ++ b ∷ []) ++ s ≡ kept ++ b ∷ s
@@ -61,7 +57,7 @@ too_long line h = rw (lt-leb (length line) most_digits h)
 
 refused_long : (lines : ℕ) (line link pool out text : List ℕ) → most_digits < length line
     → line_of lines line link pool out text
-    ≡ unless (leb (most_text out) (length text)) (leaving Full lines link pool out text) (refused_line lines link pool out text)
+    ≡ unless (leb (most_text out) (length text)) (leaving None lines link pool out text) (refused_line lines link pool out text)
 unfolding line_of
 refused_long lines line link pool out text h = rw (too_long line h)
 
@@ -77,23 +73,13 @@ module _ (n : ℕ) (h : most_kept ≤ n) (lines : ℕ) where
   line_cut : (line link pool out text : List ℕ) → line_of lines (take n line) link pool out text ≡ line_of lines line link pool out text
   line_cut line link pool out text = rw (append-nil (take n line), append-nil line) at (front_cut line [] link pool out text)
 
--- ---- a line behind what was gathered
+-- a line of which 3,001 characters were gathered
+pub line_gathered : {line' : List ℕ} (w : ℕ) (r : Run) (line : List ℕ) → line' ≡ take most_kept line → answered_at w r line' ≡ answered_at w r line
+line_gathered w r line e =
+    ap (answered_at w r) e
+    ∙ ap (joined w r.texts) (line_cut most_kept (omega arith) r.lines line r.link r.pool r.out (drop w r.texts))
 
--- the front of the line buffer, with the rest of the line put behind what was gathered
-pub gathered : (lines : ℕ) (line part link pool out text : List ℕ) (filled : ℕ) {n : ℕ} {line' q : List ℕ} → most_kept ≤ length line
-    → n ≡ min filled (length line) + length (fitting line filled part) → line' ≡ put_into line filled part → q ≡ take n line'
-    → line_of lines q link pool out text ≡ line_of lines (take filled line ++ part) link pool out text
-gathered lines line part link pool out text filled {n} {line'} {q} h e f g =
-    ap (λ (l : List ℕ). line_of lines l link pool out text) (g ∙ ap (take n) f ∙ put_front line part filled e)
-    ∙ line_cut (length line) h lines (take filled line ++ part) link pool out text
-
--- ---- texts that wait
-
-pub waits_on : (out texts : List ℕ) (w : ℕ) → w ≤ length texts - most_text out → w ≡ waiting_before out texts w
-waits_on out texts w h = rw (le-leb w (length texts - most_text out) h)
-
-pub waits_no : (out texts : List ℕ) (w : ℕ) → length texts - most_text out < w → 0 ≡ waiting_before out texts w
-waits_no out texts w h = rw (lt-leb w (length texts - most_text out) h)
+-- ---- the text of a line
 
 -- a text is no longer than the buffer that it stands in
 abbrev Within : Left → Type 0
@@ -111,102 +97,47 @@ size_within lines line link pool out text =
     either Within (is_taken line) _ _ (λ _. said_within (text_of number (verdict_of o.values o.out)) text) (λ _. said_within (text_of number (letter_x ∷ [])) text)
 
 module _ {t : Turn} {link' pool' out' text' : List ℕ} where
-  text_within : (lines : ℕ) (line link pool out text : List ℕ) → left t link' pool' out' text' ≡ line_of lines line link pool out text
+  pub text_within : (lines : ℕ) (line link pool out text : List ℕ) → left t link' pool' out' text' ≡ line_of lines line link pool out text
       → size_of t.output ≤ length text'
   text_within lines line link pool out text e = subst Within (sym e) (size_within lines line link pool out text)
 
-  -- a line's text behind the others
-  line_joined : (r : Run) (line : List ℕ) (w n : ℕ) → w ≡ waiting_before r.out r.texts r.waiting
-      → left t link' pool' out' text' ≡ line_of r.lines line r.link r.pool r.out (drop w r.texts) → n ≡ w + size_of t.output
-      → run_of t.lines link' pool' out' (take w r.texts ++ text') n ≡ after_line r line
-  line_joined r line w n h e z =
-      ap (λ (i : ℕ). run_of t.lines link' pool' out' (take w r.texts ++ text') i) z ∙ ap (joined w r.texts) e ∙ ap (λ (i : ℕ). answered_at i r line) h
+-- where the longest text fits, a line has one
+line_says : (lines : ℕ) (line link pool out text : List ℕ) → most_text out ≤ length text → IsText (line_of lines line link pool out text).output
+unfolding line_of
+line_says lines line link pool out text room =
+    rw (le-leb (most_text out) (length text) room) (either (λ (l : Left). IsText l.output) (is_taken line) _ _ (λ _. refl) (λ _. refl))
 
--- the buffer's rest, as it is given back
-pub rest_back : (texts text : List ℕ) (w : ℕ) → put_mid w (length texts - w) texts text ≡ take w texts ++ text
-rest_back texts text w =
-    let h : length (drop w texts) ≤ length texts - w = omega (arith, length-drop w texts) in
-    ap (λ (t : List ℕ). take w texts ++ (text ++ t)) (drop_of_length-le (drop w texts) {i = length texts - w} h) ∙ ap (λ (t : List ℕ). take w texts ++ t) (append-nil text)
+pub turn_says : {t : Turn} {link' pool' out' text' : List ℕ} (lines : ℕ) (line link pool out text : List ℕ) → most_text out ≤ length text
+    → left t link' pool' out' text' ≡ line_of lines line link pool out text → IsText t.output
+turn_says lines line link pool out text room e = subst (λ (l : Left). IsText l.output) (sym e) (line_says lines line link pool out text room)
 
--- all that a line leaves, as the code has it: q is the line after m others, its text goes to the buffer's rest, and k lines are answered then
-pub line_taken : {t : Turn} {link' pool' out' text' : List ℕ} {m k w n : ℕ} {q : List ℕ} (r : Run) (line : List ℕ) → m ≡ r.lines → q ≡ line
-    → w ≡ waiting_before r.out r.texts r.waiting → w ≤ length r.texts → length text' ≡ length (mid_of w (length r.texts - w) r.texts)
-    → left t link' pool' out' text' ≡ line_of m q r.link r.pool r.out (mid_of w (length r.texts - w) r.texts)
-    → n ≡ min (w + size_of t.output) (length (put_mid w (length r.texts - w) r.texts text')) → k ≡ t.lines
-    → run_of k link' pool' out' (put_mid w (length r.texts - w) r.texts text') n ≡ after_line r line
-line_taken {t} {link'} {pool'} {out'} {text'} {m} {k} {w} {n} {q} r line f g h i l e z y =
-    let texts = r.texts in
-    let mid = mid_of w (length texts - w) texts in
-    let answer : ℕ → List ℕ → List ℕ → Left = λ j s text. line_of j s r.link r.pool r.out text in
-    let size : size_of t.output ≤ length text' = text_within m q r.link r.pool r.out mid e in
-    let room : length text' ≡ length texts - w = l ∙ ap (λ (s : List ℕ). length s) (rest_lent texts w) ∙ length-drop w texts in
-    let left_so = e ∙ ap (λ (j : ℕ). answer j q mid) f ∙ ap (λ (s : List ℕ). answer r.lines s mid) g ∙ ap (answer r.lines line) (rest_lent texts w) in
-    let whole = ap (λ (s : List ℕ). length s) (rest_back texts text' w) ∙ length-append (take w texts) text' in
-    ap (λ (j : ℕ). run_of j link' pool' out' (put_mid w (length texts - w) texts text') n) y
-    ∙ ap (λ (s : List ℕ). run_of t.lines link' pool' out' s n) (rest_back texts text' w)
-    ∙ line_joined r line w n h left_so (omega (arith, z, size, room, i, whole, length-take w texts))
+-- ---- over what is left of a piece
 
--- the texts are written then, and what is kept stays
-pub then_written : {k l : ℕ} {link pool out texts : List ℕ} {n w : ℕ} {r : Run} → n ≡ 0 → k ≡ l → run_of l link pool out texts w ≡ r
-    → run_of k link pool out texts n ≡ written r
-then_written {link = link} {pool} {out} {texts} z y e =
-    ap (run_of _ link pool out texts) z ∙ ap (λ (i : ℕ). run_of i link pool out texts 0) y ∙ ap written e
-
-pub then_kept : {n m : ℕ} {kept : List ℕ} (line : List ℕ) → n ≡ m → take m line ≡ kept → take n line ≡ kept
-then_kept line z e = ap (λ (i : ℕ). take i line) z ∙ e
-
--- ---- over a piece, from a place on
-
-pub ends_at : (piece : List ℕ) (at end : ℕ) → at ≤ length piece → end ≡ line_end_of piece at → end ≡ at + line_length (drop at piece)
+pub end_is : (s : List ℕ) {end : ℕ} → end ≡ line_end_of s 0 → end ≡ line_length s
 unfolding line_end_of
-ends_at piece at end h e = omega (arith, h, e)
+end_is s e = omega (arith, e)
 
-module _ (piece : List ℕ) (at end : ℕ) (e : end ≡ at + line_length (drop at piece)) where
-  -- a line ends at `end`, and at' is behind its newline
-  module _ (h : end < length piece) {at' : ℕ} (z : at' ≡ min (1 + end) (length piece)) where
-    behind : at' ≡ at + suc (line_length (drop at piece))
-    behind = omega (arith, h, e, z)
+module _ (s kept : List ℕ) (r : Run) where
+  -- a line ends: it is answered, none of it is kept, and what is behind its newline is left
+  module _ (h : line_length s < length s) {part kept' s' : List ℕ} (p : part ≡ take (line_length s) s) (k : s' ≡ drop (line_length s + 1) s) (none : kept' ≡ []) where
+    left_is : s' ≡ drop (suc (line_length s)) s
+    left_is = k ∙ rw add-one
 
-    inside : line_length (drop at piece) < length (drop at piece)
-    inside = omega (arith, h, e, length-drop at piece)
-
-    rest_is : drop (suc (line_length (drop at piece))) (drop at piece) ≡ drop at' piece
-    rest_is = drop-drop (suc (line_length (drop at piece))) at piece ∙ ap (λ (i : ℕ). drop i piece) (sym behind)
-
-    pub line_passed : {filled : ℕ} (line kept : List ℕ) (r r' : Run) → filled ≡ 0 → r' ≡ after_line r (kept ++ take (end - at) (drop at piece))
-        → after_lines r' (lines_in (take filled line) (drop at' piece)) ≡ after_lines r (lines_in kept (drop at piece))
+    pub line_passed : {r' : Run} → r' ≡ after_line r (kept ++ part) → after_lines r' (lines_in kept' s') ≡ after_lines r (lines_in kept s)
     unfolding after_lines
-    line_passed line kept r r' none f =
-        let s = drop at piece in
-        let n : end - at ≡ line_length s = omega (arith, e) in
-        ap (λ (i : ℕ). after_lines r' (lines_in (take i line) (drop at' piece))) none
-        ∙ ap (λ (q : Run). after_lines q (lines_in [] (drop at' piece))) (f ∙ ap (λ (i : ℕ). after_line r (kept ++ take i s)) n)
-        ∙ ap (λ (t : List ℕ). after_lines (after_line r (kept ++ take (line_length s) s)) (lines_in [] t)) (sym rest_is)
-        ∙ sym (ap (after_lines r) (lines_some kept s inside))
+    line_passed {r'} f =
+        ap (λ (l : List ℕ). after_lines r' (lines_in l s')) none
+        ∙ ap (λ (l : List ℕ). after_lines r' (lines_in [] l)) left_is
+        ∙ ap (λ (q : Run). after_lines q (lines_in [] (drop (suc (line_length s)) s))) (f ∙ ap (λ (l : List ℕ). after_line r (kept ++ l)) p)
+        ∙ sym (ap (after_lines r) (lines_some kept s h))
 
-    pub kept-passed : {filled : ℕ} (line kept : List ℕ) → filled ≡ 0 → kept_after (take filled line) (drop at' piece) ≡ kept_after kept (drop at piece)
-    kept-passed line kept none =
-        ap (λ (i : ℕ). kept_after (take i line) (drop at' piece)) none ∙ ap (kept_after []) (sym rest_is) ∙ sym (kept_some kept (drop at piece) inside)
+    pub kept-passed : kept_after kept' s' ≡ kept_after kept s
+    kept-passed = ap (λ (l : List ℕ). kept_after l s') none ∙ ap (kept_after []) left_is ∙ sym (kept_some kept s h)
 
   -- no line ends any more
-  module _ (h : length piece ≤ end) (l : end ≤ length piece) where
-    all-in-line : line_length (drop at piece) ≡ length (drop at piece)
-    all-in-line = omega (arith, h, l, e, length-drop at piece)
-
-    pub lines-over : (kept : List ℕ) (r : Run) → after_lines r (lines_in kept (drop at piece)) ≡ r
-    unfolding after_lines
-    lines-over kept r = ap (after_lines r) (lines_none kept (drop at piece) all-in-line)
-
-    pub kept-over : (line : List ℕ) (filled : ℕ) {place n : ℕ} {line' : List ℕ}
-        → n ≡ min place (length line) + length (fitting line place (mid_of at (length piece - at) piece))
-        → line' ≡ put_into line place (mid_of at (length piece - at) piece) → place ≡ filled
-        → take n line' ≡ take (length line) (kept_after (take filled line) (drop at piece))
-    kept-over line filled {place} {n} {line'} f g z =
-        ap (take n) g
-        ∙ put_front line (mid_of at (length piece - at) piece) place f
-        ∙ ap (λ (i : ℕ). take (length line) (take i line ++ mid_of at (length piece - at) piece)) z
-        ∙ ap (λ (s : List ℕ). take (length line) (take filled line ++ s)) (rest_lent piece at)
-        ∙ ap (take (length line)) (sym (kept_none (take filled line) (drop at piece) all-in-line))
+  pub lines-over : line_length s ≡ length s → after_lines r (lines_in kept s) ≡ r
+  unfolding after_lines
+  lines-over e = ap (after_lines r) (lines_none kept s e)
 
 -- ---- two pieces, one after the other
 
@@ -249,7 +180,7 @@ module _ (n : ℕ) (h : most_kept ≤ n) where
       ∙ sym (ap (after_lines r) (lines_of_both kept p q))
 
 -- no bytes were read
-pub none_read : (line piece : List ℕ) (filled : ℕ) → length piece ≡ 0 → take filled line ≡ take (length line) (kept_after (take filled line) piece)
+pub none_read : (kept piece : List ℕ) → length kept ≤ most_kept → length piece ≡ 0 → kept ≡ take most_kept (kept_after kept piece)
 unfolding kept_after
-none_read line [] filled h = sym (take_all (length line) (take filled line) (omega (arith, length-take filled line)))
-none_read line (b ∷ piece) filled h = absurd (omega arith)
+none_read kept [] room h = sym (take_all most_kept kept room)
+none_read kept (b ∷ piece) room h = absurd (omega arith)

@@ -1,10 +1,13 @@
 -- Text put into a buffer part by part: parts with their space, and a line's whole text. By the laws of take and drop and of `Appended`. Assumes nothing.
-use Rattle.std.proofs.Common.{◌≡◌, ℕ, ◌+◌, ◌<◌, ◌≤◌, List, [], ◌∷◌, ◌++◌, length, take, sym, refl, ap, ◌∙◌, append_assoc, arith, length-append, take-append-drop, length-take}
+use Rattle.std.proofs.Common.{◌≡◌, ℕ, ◌+◌, ◌-◌, ◌<◌, ◌≤◌, List, [], ◌∷◌, ◌++◌, length, take, sym, refl, ap, ◌∙◌, append_assoc, arith, length-append, take-append-drop, length-take, Option, Some, None, IsSome}
+use Rattle.numbers.specs.Bytes.{part}
+use Rattle.lines.specs.Text.{encoded, written_of}
 use Rattle.lines.specs.Hex.{hex_of}
 use Rattle.lines.specs.Decimal.{decimal_of}
 use Rattle.lines.proofs.Characters.{length_hex}
 use Rattle.payload.specs.Append.{Appended}
 use Rattle.payload.proofs.Appends.{more, renamed}
+use Rattle.payload.proofs.Writers.{rest_full}
 use Rattle.link.specs.Values.{Kind, short, refused, reply, silent, delivery, Values}
 use Rattle.headunit.specs.Unit.{sent, sent_of}
 use Rattle.benchline.specs.Line.{spaced, verdict_by, verdict_of, text_of}
@@ -12,6 +15,11 @@ use Rattle.benchline.specs.Line.{spaced, verdict_by, verdict_of, text_of}
 -- the front of a buffer is no longer than the buffer
 pub front_short : {q : List ℕ} (n : ℕ) (o : List ℕ) → q ≡ take n o → length q ≤ length o
 front_short n o e = omega (arith, ap length e, length-take n o)
+
+-- a writer of `lines` has an answer where its text fits into what is left of a buffer
+pub rest_some : {a : Option ℕ} {r : List ℕ} (d o : List ℕ) (at : ℕ) → at + length d ≤ length o → encoded a r ≡ written_of d (part o at (length o - at)) → IsSome a
+rest_some {a = Some n} d o at room e = refl
+rest_some {a = None} d o at room e = absurd (rest_full d o at room e refl)
 
 -- a part with its space
 pub spaced_some : (d : List ℕ) → 0 < length d → 32 ∷ d ≡ spaced d

@@ -1,6 +1,6 @@
 -- The bench: one line of hexadecimal digits in, one line of text out. Document 01, "The bench program and the C side".
 -- A character is its number, as 'A' is 65; a line is the list of its characters, without the newline. Assumes nothing.
-use Rattle.std.specs.Prelude.{ℕ, ◌+◌, ◌*◌, ◌%◌, ◌^◌, Bool, true, false, ◌&&◌, List, [], ◌∷◌, ◌++◌, length, take, ◌==◌, nat_le}
+use Rattle.std.specs.Prelude.{ℕ, ◌+◌, ◌*◌, ◌%◌, ◌^◌, Bool, true, false, ◌&&◌, List, [], ◌∷◌, ◌++◌, length, take, ◌==◌, nat_le, Option, Some, None}
 use Rattle.numbers.specs.Bytes.{pick, unless, laid}
 use Rattle.lines.specs.Text.{every}
 use Rattle.lines.specs.Hex.{is_hex, bytes_of, hex_of}
@@ -12,8 +12,6 @@ use Rattle.payload.specs.declared.version.Version.{Version}
 use Rattle.link.specs.declared.Grant.{Grant}
 use Rattle.link.specs.Values.{Kind, short, refused, reply, silent, delivery, Values, service_bytes}
 use Rattle.state.specs.Calls.{call_in, Told, told_of, create_in}
-use Rattle.benchline.specs.declared.Output.{Output}
-use Rattle.benchline.specs.declared.Output.TheVariants.{Text, Full}
 use Rattle.benchline.specs.declared.Turn.{Turn}
 
 -- "at most 3,000 digits"
@@ -91,14 +89,14 @@ next_of lines = (lines + 1) % 2 ^ 64
 
 -- all that a line leaves: what it gives back, the link's state, and the lent buffers
 pub record Left : Type 0 where
-  pub output : Output
+  pub output : Option ℕ
   pub lines : ℕ
   pub state : List ℕ
   pub pool : List ℕ
   pub out : List ℕ
   pub text : List ℕ
 
-abbrev pub leaving : Output → ℕ → List ℕ → List ℕ → List ℕ → List ℕ → Left
+abbrev pub leaving : Option ℕ → ℕ → List ℕ → List ℕ → List ℕ → List ℕ → Left
 leaving output lines state pool out text = record { output = output; lines = lines; state = state; pool = pool; out = out; text = text }
 
 abbrev pub left : Turn → List ℕ → List ℕ → List ℕ → List ℕ → Left
@@ -106,7 +104,7 @@ left t state pool out text = leaving t.output t.lines state pool out text
 
 -- the text to the front of the text buffer, and how long it is
 abbrev pub saying : List ℕ → ℕ → List ℕ → List ℕ → List ℕ → List ℕ → Left
-saying said number state pool out text = leaving (Text (length said)) number state pool out (laid said text)
+saying said number state pool out text = leaving (Some (length said)) number state pool out (laid said text)
 
 -- a line that is not taken, after so many: the link is not called
 abbrev pub refused_line : ℕ → List ℕ → List ℕ → List ℕ → List ℕ → Left
@@ -121,9 +119,9 @@ answered_line number o text = saying (text_of number (verdict_of o.values o.out)
 abbrev pub most_text : List ℕ → ℕ
 most_text out = 2 * length out + 32
 
--- one line, after so many: Full, with nothing changed, where the longest text might not fit; else its text
+-- one line, after so many: no text, and nothing changed, where the longest text might not fit; else its text
 unfoldable pub line_of : ℕ → List ℕ → List ℕ → List ℕ → List ℕ → List ℕ → Left
 line_of lines line state pool out text =
-    unless (nat_le (most_text out) (length text)) (leaving Full lines state pool out text)
+    unless (nat_le (most_text out) (length text)) (leaving None lines state pool out text)
     (pick (is_taken line) (answered_line (next_of lines) (told_of (call_in state pool (bytes_of line) out offer)) text)
     (refused_line lines state pool out text))

@@ -12,13 +12,13 @@ ghost use Rattle.payload.specs.Append.{Appended};
 ghost use Rattle.link.specs.Values.{values_of};
 ghost use Rattle.state.specs.Calls.{call_in, told_of};
 ghost use Rattle.headunit.specs.Unit.{sent, sent_of};
-ghost use Rattle.benchline.specs.declared.Input.TheVariants.{Frame, NotTaken};
 ghost use Rattle.benchline.specs.Line.{offer as offered, new_state, is_frame, is_taken, spaced, letter_x, letter_r, letter_w, letter_d, verdict_of, text_of, next_of, left, refused_line, answered_line, most_text, line_of};
 
+use figures::refusal::Refusal;
 use frame::{Reading, ServiceType};
-use lines::{Decoded, Encoded};
 use link::{Answer, Grant};
 use payload::version::Version;
+use text::front;
 
 // Document 01's figures of the bench.
 const MOST_DIGITS: usize = 3000;
@@ -34,39 +34,16 @@ const CAP: u16 = 64;
 
 const HASH: u32 = 39027;
 
-// What a line answers: so many characters at the front of the text buffer, the newline included, or that the text might not fit.
-#[derive(Clone, Copy)]
-pub enum Output {
-    Text(usize),
-    Full,
-}
-
 // What a line gives back.
 #[derive(Clone, Copy)]
 pub struct Turn {
-    pub output: Output,
+    // so many characters at the front of the text buffer, the newline included; None: the text might not fit
+    pub output: Option<usize>,
     // so many lines were answered; after 2^64 - 1 comes 0
     pub lines: u64,
 }
 
-// What the digits of a line are: so many bytes for the link, or nothing that it is asked about.
-#[derive(Clone, Copy)]
-pub enum Input {
-    Frame(usize),
-    NotTaken,
-}
-
 // ---- reading a line
-
-// The first bytes of a slice, all of them where it has fewer than asked for.
-fn front(whole: &[u8], count: usize) -> &[u8]
-    ensures { result.now ≡ take count whole.now }
-{
-    if whole.len() < count {
-        return whole;
-    }
-    &whole[0..count]
-}
 
 // Whether bytes are one frame and no more. What the reader refuses is the link's to answer.
 fn is_frame(bytes: &[u8]) -> bool
@@ -79,29 +56,20 @@ fn is_frame(bytes: &[u8]) -> bool
     }
 }
 
-// The bytes of a line that is taken, to the front of a buffer. What the buffer holds besides is of no use.
-fn read_line(digits: &[u8], bytes: &mut [u8]) -> Input
-    requires { 1500 ≤ length bytes.old }
-    ensures value { result ≡ pick (is_taken digits.now) (Frame (length digits.now / 2)) NotTaken }
+// The bytes of a line that is taken, to the front of a buffer: so many, for the link. What the buffer holds besides is of no use.
+fn read_line(digits: &[u8], bytes: &mut [u8; MOST_BYTES]) -> Option<usize>
+    ensures value { result ≡ pick (is_taken digits.now) (Some (length digits.now / 2)) None }
     ensures bytes_after { is_taken digits.now ≡ true → take (length digits.now / 2) bytes.new ≡ bytes_of digits.now }
 {
     if MOST_DIGITS < digits.len() {
-        return Input::NotTaken;
+        return None;
     }
-    match lines::hex_to_bytes(digits, bytes) {
-        Decoded::Bytes(count) => {
-            if is_frame(front(bytes, count)) {
-                return Input::Frame(count);
-            }
-            Input::NotTaken
-        }
-        Decoded::Odd => Input::NotTaken,
-        Decoded::NotHex => Input::NotTaken,
-        Decoded::Full => Input::NotTaken,
-    }
+    let count = lines::hex_to_bytes(digits, bytes).ok()?;
+    is_frame(front(bytes, count)).then_some(count)
 }
 
 // ---- writing its text: each function puts a part into the buffer from a place on and answers where it ends
+// Place and buffer are two parameters: a struct that holds a lent buffer has to say in each contract that it still holds this one.
 
 fn put_byte(b: u8, at: usize, text: &mut [u8]) -> usize
     requires { at + 1 ≤ length text.old }
@@ -115,20 +83,14 @@ fn put_decimal(number: u64, at: usize, text: &mut [u8]) -> usize
     requires { at + length (decimal_of number) ≤ length text.old }
     ensures { Appended at (decimal_of number) text.old result text.new }
 {
-    match lines::number_to_decimal(number, &mut text[at..]) {
-        Encoded::Chars(count) => at + count,
-        Encoded::Full => at,
-    }
+    at + lines::number_to_decimal(number, &mut text[at..]).unwrap()
 }
 
 fn put_hex(bytes: &[u8], at: usize, text: &mut [u8]) -> usize
     requires { at + 2 * length bytes.now ≤ length text.old }
     ensures { Appended at (hex_of bytes.now) text.old result text.new }
 {
-    match lines::bytes_to_hex(bytes, &mut text[at..]) {
-        Encoded::Chars(count) => at + count,
-        Encoded::Full => at,
-    }
+    at + lines::bytes_to_hex(bytes, &mut text[at..]).unwrap()
 }
 
 // Bytes as a part: a space before them, and no part for no bytes.
@@ -136,20 +98,21 @@ fn put_part(bytes: &[u8], at: usize, text: &mut [u8]) -> usize
     requires { at + (2 * length bytes.now + 1) ≤ length text.old }
     ensures { Appended at (spaced (hex_of bytes.now)) text.old result text.new }
 {
-    if bytes.len() == 0 {
+    if bytes.is_empty() {
         return at;
     }
     let next = put_byte(b' ', at, text);
     put_hex(bytes, next, text)
 }
 
-fn put_refusal(number: u8, at: usize, text: &mut [u8]) -> usize
+fn put_refusal(refusal: Refusal, at: usize, text: &mut [u8]) -> usize
     requires { at + 5 ≤ length text.old }
-    ensures { Appended at (letter_r ∷ spaced (decimal_of number)) text.old result text.new }
+    ensures appended { Appended at (letter_r ∷ spaced (decimal_of refusal)) text.old result text.new }
+    ensures upper_bound { result ≤ at + 5 }
 {
     let letter = put_byte(b'R', at, text);
     let space = put_byte(b' ', letter, text);
-    put_decimal(number as u64, space, text)
+    put_decimal(u64::from(refusal.number()), space, text)
 }
 
 fn put_reply(bytes: &[u8], at: usize, text: &mut [u8]) -> usize
@@ -164,9 +127,8 @@ fn put_delivery(service: ServiceType, bytes: &[u8], at: usize, text: &mut [u8]) 
     requires { at + (2 * length bytes.now + 5) ≤ length text.old }
     ensures { Appended at (letter_d ∷ (spaced (hex_of (service.0 ∷ [])) ++ spaced (hex_of bytes.now))) text.old result text.new }
 {
-    let number = [service.0; 1];
     let letter = put_byte(b'D', at, text);
-    let named = put_part(&number, letter, text);
+    let named = put_part(&[service.0], letter, text);
     put_part(bytes, named, text)
 }
 
@@ -178,10 +140,10 @@ fn put_verdict(answer: Answer, out: &[u8], at: usize, text: &mut [u8]) -> usize
 {
     match answer {
         Answer::Short(_) => put_byte(b'X', at, text),
-        Answer::Refused(number) => put_refusal(number, at, text),
-        Answer::Acked(_, count) => put_reply(front(out, count), at, text),
-        Answer::Nacked(_, count) => put_reply(front(out, count), at, text),
-        Answer::Beat(_, count) => put_reply(front(out, count), at, text),
+        Answer::Refused(refusal) => put_refusal(refusal, at, text),
+        Answer::Acked(_, count) | Answer::Nacked(_, count) | Answer::Beat(_, count) => {
+            put_reply(front(out, count), at, text)
+        }
         Answer::Accepted(_) => put_byte(b'A', at, text),
         Answer::Delivered(_, service, count) => {
             put_delivery(service, front(out, count), at, text)
@@ -241,24 +203,22 @@ pub fn start(link: &mut [u8])
         minor: 4,
         patch: 1,
     };
-    headunit::create(link, version, MODULE_MTU);
+    // bytes of another length stay as they are
+    let _ = headunit::create(link, version, MODULE_MTU);
 }
 
 // Whether the longest text fits.
 fn has_room(text: usize, out: usize) -> bool
     ensures { result ≡ nat_le (2 * out + 32) text }
 {
-    if text < 32 {
-        return false;
-    }
-    out <= (text - 32) / 2
+    32 <= text && out <= (text - 32) / 2
 }
 
 // The number of the line after so many.
 fn next_number(lines: u64) -> u64
     ensures { result ≡ next_of lines }
 {
-    std::num::wrapping_add_u64(lines, 1)
+    lines.wrapping_add(1)
 }
 
 // A line that is taken: the link is called.
@@ -271,13 +231,14 @@ fn answered(
     text: &mut [u8],
 ) -> Turn
     requires { most_text out.old ≤ length text.old }
-    ensures { left result link.new pool.new out.new text.new ≡ answered_line (next_of lines) (told_of (call_in link.old pool.old bytes.now out.old offered)) text.old }
+    ensures { left result link.new pool.new out.new text.new
+        ≡ answered_line (next_of lines) (told_of (call_in link.old pool.old bytes.now out.old offered)) text.old }
 {
     let answer = headunit::call(link, pool, bytes, out, offer());
     let number = next_number(lines);
     let count = put_answer(number, answer, out, text);
     Turn {
-        output: Output::Text(count),
+        output: Some(count),
         lines: number,
     }
 }
@@ -290,12 +251,15 @@ fn refused(lines: u64, text: &mut [u8]) -> Turn
     let number = next_number(lines);
     let count = put_not_taken(number, text);
     Turn {
-        output: Output::Text(count),
+        output: Some(count),
         lines: number,
     }
 }
 
 // One line without its newline, after so many: its text, newline included, to the front of the text buffer.
+// The buffers are slices beside each other, since `line_of` says what comes of state, buffers and text of any length.
+// Not inlined: where the buffers are fields of one struct, the compiler tells them apart only as parameters, and else a line costs some 7 % more.
+#[inline(never)]
 pub fn line(
     lines: u64,
     digits: &[u8],
@@ -308,13 +272,13 @@ pub fn line(
 {
     if !has_room(text.len(), out.len()) {
         return Turn {
-            output: Output::Full,
-            lines: lines,
+            output: None,
+            lines,
         };
     }
     let mut bytes = [0u8; MOST_BYTES];
     match read_line(digits, &mut bytes) {
-        Input::Frame(count) => answered(lines, front(&bytes, count), link, pool, out, text),
-        Input::NotTaken => refused(lines, text),
+        Some(count) => answered(lines, front(&bytes, count), link, pool, out, text),
+        None => refused(lines, text),
     }
 }

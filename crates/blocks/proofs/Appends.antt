@@ -55,6 +55,13 @@ append_skip owner n off at k s (o ∷ map) pool f g =
         let m : block_size * suc j ≡ block_size + block_size * j = omega arith in
         in_two (appended owner off s (drop j map)) block_size (block_size * j) pool ∙ rw (q, m)
 
+-- there is no such block
+pub none_found : (owner at : ℕ) (s map pool : List ℕ) → length map ≤ nth_number owner (at / block_size) map → pool ≡ appended owner at s map pool
+unfolding appended
+none_found owner at s map pool h =
+    let k : ℕ = nth_number owner (at / block_size) map in
+    sym (append_skip owner (at / block_size) (at % block_size) at k s map pool (omega arith) refl ∙ rw (drop_of_length-le map {i = k} h) (take-append-drop (block_size * k) pool))
+
 -- the block at the place where the payload goes
 pub from_found : (owner at : ℕ) (s map pool : List ℕ) {k : ℕ} → k ≡ nth_number owner (at / block_size) map
     → {after : List ℕ} → after ≡ appended_from owner k (at % block_size) s map pool → after ≡ appended owner at s map pool
@@ -118,49 +125,40 @@ module _ (owner b at : ℕ) (s map pool : List ℕ) (k : ℕ) (is : k ≡ b + nt
 -- ---- the loop
 
 -- between two turns: to append what is left of the payload from block b on is the whole append
-pub record Filling (owner first at : ℕ) (payload map before pool : List ℕ) (b place done : ℕ) : Type 0 where
+pub record Filling (owner first at : ℕ) (payload map before pool : List ℕ) (b place : ℕ) (rest : List ℕ) : Type 0 where
   pub inside : place < block_size
-  pub so_far : done ≤ length payload
   pub size : length pool ≡ length before
-  pub rest : appended_from owner b place (drop done payload) map pool ≡ appended_from owner first at payload map before
+  pub whole : appended_from owner b place rest map pool ≡ appended_from owner first at payload map before
 
-module _ {owner first at b place done : ℕ} {payload map before pool : List ℕ} (i : Filling owner first at payload map before pool b place done) where
+module _ {owner first at b place : ℕ} {payload map before pool rest : List ℕ} (i : Filling owner first at payload map before pool b place rest) where
   -- the payload is used up
-  pub filling_ends : length payload ≤ done → pool ≡ appended_from owner first at payload map before
+  pub filling_ends : length rest ≡ 0 → pool ≡ appended_from owner first at payload map before
   unfolding appended_from
   filling_ends h =
-      sym (rw (drop_of_length-le payload {i = done} h, append_nothing owner place (drop b map) (drop (block_size * b) pool)) (take-append-drop (block_size * b) pool)) ∙ i.rest
-
-  -- some of the payload is left, and the block takes some of it
-  pub filling_falls : done < length payload → {n : ℕ} → n ≡ min (block_size - place) (length payload - done) → length payload - (done + n) < length payload - done
-  filling_falls more least = omega arith
+      sym (rw (nil_of rest h, append_nothing owner place (drop b map) (drop (block_size * b) pool)) (take-append-drop (block_size * b) pool)) ∙ i.whole
 
   module _ {k : ℕ} (next : k ≡ b + nth_number owner 0 (drop b map)) where
     pub filling-no-block : length map ≤ k → pool ≡ appended_from owner first at payload map before
-    filling-no-block h = no_block owner b place (drop done payload) map pool k next h ∙ i.rest
+    filling-no-block h = no_block owner b place rest map pool k next h ∙ i.whole
 
     module _ {t : Bool} (test : t ≡ ltb (block_size * k) (length pool)) where
       pub filling-no-pool : t ≡ false → pool ≡ appended_from owner first at payload map before
-      filling-no-pool f = no_pool owner b place (drop done payload) map pool k next (ends k (length pool) test f) ∙ i.rest
-
-      pub filling-starts : t ≡ true → block_size * k < length pool
-      filling-starts f = starts k (length pool) test f
+      filling-no-pool f = no_pool owner b place rest map pool k next (ends k (length pool) test f) ∙ i.whole
 
       -- a turn, with the parts that code lends
       pub filling-turn : t ≡ true → k < length map → {start size n : ℕ} → start ≡ block_size * k → size ≡ min block_size (length pool - start)
-          → n ≡ min (block_size - place) (length payload - done)
-          → {o : List ℕ} → o ≡ over place (take (length payload - done) (drop done payload)) (take (start + size - start) (drop start pool))
-          → Filling owner first at payload map before (put_mid start (start + size - start) pool o) (k + 1) 0 (done + n)
+          → n ≡ min (length rest) (block_size - place)
+          → {o : List ℕ} → o ≡ over place rest (take (start + size - start) (drop start pool))
+          → Filling owner first at payload map before (put_mid start (start + size - start) pool o) (k + 1) 0 (take (length rest - n) (drop n rest))
       filling-turn f below {start} {size} {n} begins sized least {o} put =
-          let fits = filling-starts f in
+          let fits = starts k (length pool) test f in
           let z : start + size - start ≡ size = omega arith in
           let block = cut_short (drop start pool) block_size size (omega (arith, length-drop start pool)) in
-          let left : drop (done + n) payload ≡ drop (block_size - place) (drop done payload) =
-          sym (drop-drop n done payload) ∙ (cut_short (drop done payload) (block_size - place) n (omega (arith, length-drop done payload))).1 in
-          let share : o ≡ over place (drop done payload) (take block_size (drop start pool)) = put ∙ rw (rest_lent payload done, z, block.0) in
+          let left : take (length rest - n) (drop n rest) ≡ drop (block_size - place) rest =
+          rest_lent rest n ∙ (cut_short rest (block_size - place) n (omega arith)).1 in
+          let share : o ≡ over place rest (take block_size (drop start pool)) = put ∙ rw (z, block.0) in
           record {
             inside = omega arith;
-            so_far = omega arith;
             size = same_len_mid start (start + size - start) pool o (ap length put ∙ over_length place _ (take (start + size - start) (drop start pool))) ∙ i.size;
-            rest = rw (z, block.1, left, begins) (from_turn owner b place (drop done payload) map pool k next below (omega arith) i.inside (rw begins at share)) ∙ i.rest;
+            whole = rw (z, block.1, left, begins) (from_turn owner b place rest map pool k next below (omega arith) i.inside (rw begins at share)) ∙ i.whole;
           }

@@ -1,18 +1,24 @@
 -- Turns and ends of the loops over the map: what is counted, claimed, released or found, and what is left to go through.
 -- By the laws of one entry. Assumes nothing.
-use Prim.Native.Nat.{ℕ, suc, ◌+◌, ◌-◌, ◌<◌, ◌≤◌}
-use mathlib.Core.Path.{◌≡◌, ap, sym, ◌∙◌}
+use Prim.Native.Nat.{ℕ, zero, suc, ◌+◌, ◌-◌, ◌*◌, ◌/◌, ◌<◌, ◌≤◌}
+use mathlib.Core.Path.{◌≡◌, refl, ap, sym, ◌∙◌}
 use mathlib.Core.Logic.{◌≢◌}
 use mathlib.Core.Bool.{◌&&◌}
 use mathlib.Core.List.{List, [], ◌∷◌, ◌++◌, append-nil}
 use native.Mathlib.Numerals.{add-one}
 use native.Mathlib.Omega.{arith}
-use lib.Dec.{eqb, leb}
+use native.Mathlib.Nat.{mul-le-mul_right, div-mul-le_self}
+use lib.Dec.{eqb, ltb, leb}
 use lib.ListN.{length, take, drop, get_or, set, drop_of_length-le, take-append-drop, length-drop}
 use lib.Seq.{drop-cons, take-suc-set, drop-set-lt, append_snoc, take_all, drop-drop, get_or-drop}
+use borrow.Author.Tests.{ltb-true, ltb-false, lt-ltb, le-ltb}
+use Rattle.std.proofs.Common.{Option, Some, None}
+use Rattle.std.specs.Simd.{first_chunks}
 use Rattle.numbers.specs.Bytes.{pick}
+use Rattle.numbers.proofs.Choices.{split}
 use Rattle.numbers.proofs.Slices.{rest_lent}
-use Rattle.blocks.specs.Map.{free, held_by, claimed, released, nth_number}
+use Rattle.blocks.specs.declared.BlockNumber.{BlockNumber}
+use Rattle.blocks.specs.Map.{free, held_by, claimed, released, nth_number, nth_from, found_at}
 use Rattle.blocks.proofs.Counts.{claim_none, place_here, place_later, place_not, place_owner, place_skip}
 
 -- a pass over a list at i: v is stored there
@@ -57,26 +63,83 @@ unfolding held_by
 held_pieces owner [] b = omega arith
 held_pieces owner (o ∷ a) b = omega (arith, held_pieces owner a b)
 
-module _ (owner : ℕ) (map : List ℕ) (i n : ℕ) {r : ℕ} (e : r ≡ held_by owner (take (i + n - i) (drop i map))) where
-  group_count : r ≡ held_by owner (take n (drop i map))
-  group_count = let z : i + n - i ≡ n = omega arith in e ∙ ap (λ (k : ℕ). held_by owner (take k (drop i map))) z
-
+-- a group of n entries from i on: counted, or passed where the block that is looked for is not among them
+module _ (owner : ℕ) (map : List ℕ) (i n : ℕ) {r : ℕ} (e : r ≡ held_by owner (take n (drop i map))) where
   pub group_turn : r + held_by owner (drop (i + n) map) ≡ held_by owner (drop i map)
   group_turn =
-      ap (λ (k : ℕ). k + held_by owner (drop (i + n) map)) group_count
+      ap (λ (k : ℕ). k + held_by owner (drop (i + n) map)) e
       ∙ ap (λ (t : List ℕ). held_by owner (take n (drop i map)) + held_by owner t) (sym (drop-drop n i map))
       ∙ sym (held_pieces owner (take n (drop i map)) (drop n (drop i map))) ∙ ap (held_by owner) (take-append-drop n (drop i map))
 
-  -- the block that is looked for is not among them
   pub group_pass : (left : ℕ) → i + n ≤ length map → r ≤ left → nth_number owner left (drop i map) ≡ n + nth_number owner (left - r) (drop (i + n) map)
   group_pass left h g =
       let inside : n ≤ length (drop i map) = omega (arith, length-drop i map) in
-      let few : held_by owner (take n (drop i map)) ≤ left = omega (arith, group_count) in
-      rw (group_count, ← drop-drop n i map) (place_skip owner left n (drop i map) inside few)
+      let few : held_by owner (take n (drop i map)) ≤ left = omega (arith, e) in
+      rw (e, ← drop-drop n i map) (place_skip owner left n (drop i map) inside few)
 
--- those that are left
-pub rest_count : (owner : ℕ) (map : List ℕ) (i : ℕ) {r : ℕ} → r ≡ held_by owner (take (length map - i) (drop i map)) → r ≡ held_by owner (drop i map)
-rest_count owner map i e = e ∙ ap (held_by owner) (rest_lent map i)
+-- the i-th group of those that a list is cut into
+chunk_at : (n k i : ℕ) (xs d : List ℕ) → i < k → get_or (first_chunks n k xs) i d ≡ take n (drop (i * n) xs)
+chunk_at n zero i xs d h = absurd (omega arith)
+chunk_at n (suc k) zero xs d h = let z : zero * n ≡ 0 = omega arith in rw z
+chunk_at n (suc k) (suc i) xs d h =
+    let m : n + i * n ≡ suc i * n = omega arith in
+    chunk_at n k i (drop n xs) d (omega arith) ∙ rw (drop-drop (i * n) n xs, m)
+
+chunks_many : (n k : ℕ) (xs : List ℕ) → length (first_chunks n k xs) ≡ k
+chunks_many n zero xs = refl
+chunks_many n (suc k) xs = ap suc (chunks_many n k (drop n xs))
+
+group_at : (map d : List ℕ) (n i k : ℕ) {groups : List (List ℕ)} → groups ≡ first_chunks n k map → i < length groups → get_or groups i d ≡ take n (drop (i * n) map)
+group_at map d n i k {groups} e h =
+    let l : length groups ≡ k = ap length e ∙ chunks_many n k map in
+    ap (λ (gs : List (List ℕ)). get_or gs i d) e ∙ chunk_at n k i map d (omega arith)
+
+group_inside : (n i L : ℕ) → 0 < n → i < L / n → i * n + n ≤ L
+group_inside n i L h g =
+    let more : (i + 1) * n ≤ L / n * n = mul-le-mul_right n (omega arith) in
+    omega (arith, div-mul-le_self L n)
+
+pub held_group : (owner : ℕ) (map : List ℕ) (n i k : ℕ) {r : ℕ} {groups : List (List ℕ)} → groups ≡ first_chunks n k map → i < length groups
+    → r ≡ held_by owner (get_or groups i []) → r + held_by owner (drop ((i + 1) * n) map) ≡ held_by owner (drop (i * n) map)
+held_group owner map n i k e h f =
+    let m : i * n + n ≡ (i + 1) * n = omega arith in
+    rw m at (group_turn owner map (i * n) n (f ∙ ap (held_by owner) (group_at map [] n i k e h)))
+
+-- the i-th group of those behind a block, which is passed
+pub pass_group : (owner : ℕ) (map : List ℕ) (first n i left from : ℕ) {r : ℕ} {groups : List (List ℕ)} (item : List ℕ)
+    → groups ≡ first_chunks n (length (take (length map - first) (drop first map)) / n) (take (length map - first) (drop first map))
+    → 0 < n → first ≤ length map → i < length groups → item ≡ get_or groups i item → r ≡ held_by owner item → r ≤ left → from ≡ first + i * n
+    → (from + n ≡ first + (i + 1) * n) × (nth_from owner (from + n) (left - r) map ≡ nth_from owner from left map)
+pass_group owner map first n i left from {r} {groups} item e z f h g c q at =
+    let behind : List ℕ = drop first map in
+    let e' : groups ≡ first_chunks n (length behind / n) behind = rw (rest_lent map first) at e in
+    let many : length groups ≡ length behind / n = ap length e' ∙ chunks_many n (length behind / n) behind in
+    let inside : i * n + n ≤ length behind = group_inside n i (length behind) z (omega arith) in
+    let here : item ≡ take n (drop from map) = g ∙ group_at behind item n i (length behind / n) e' h ∙ rw (drop-drop (i * n) first map, at) in
+    (omega arith, omega (arith, group_pass owner map from n (c ∙ ap (held_by owner) here) left (omega (arith, length-drop first map)) q))
+
+-- a block that was looked for and found, and one that was not
+pub found_in : (k : ℕ) (map : List ℕ) {b : BlockNumber} {r : Option BlockNumber} → r ≡ found_at k map → r ≡ Some b → (b.0 ≡ k) × (b.0 < length map)
+unfolding found_at
+found_in k map {b} {r} e f =
+    split (ltb k (length map))
+    (λ t. let s : Some (record { 0 = k }) ≡ Some b = rw t at (sym e ∙ f) in let e : b.0 ≡ k = cc in (e, rw e (ltb-true k (length map) t)))
+    (λ t. let s : None ≡ Some b = rw t at (sym e ∙ f) in absurd (cc))
+
+pub found_is : (k i : ℕ) (map : List ℕ) → i ≡ k → i < length map → Some (record { 0 = i }) ≡ found_at k map
+unfolding found_at
+found_is k i map e h = rw (e, lt-ltb k (length map) (omega arith))
+
+pub found_past : (k : ℕ) (map : List ℕ) → length map ≤ k → None ≡ found_at k map
+unfolding found_at
+found_past k map h = rw (le-ltb k (length map) h)
+
+pub found_none : (k : ℕ) (map : List ℕ) {r : Option BlockNumber} → r ≡ found_at k map → r ≡ None → length map ≤ k
+unfolding found_at
+found_none k map {r} e f =
+    split (ltb k (length map))
+    (λ t. let s : Some (record { 0 = k }) ≡ None = rw t at (sym e ∙ f) in absurd (cc))
+    (λ t. ltb-false k (length map) t)
 
 -- finding: the block itself, another of the owner's before it, one of another, the end
 module _ (owner n : ℕ) (map : List ℕ) (i : ℕ) where

@@ -1,9 +1,8 @@
 -- The block map: a number for each block, its owner, `free` where it has none. Document 01: "it takes the lowest free blocks in
 -- rising order". An owner's blocks are the entries that bear its number, so their order needs no record. Assumes nothing.
-use Rattle.std.specs.Prelude.{ℕ, zero, suc, ◌+◌, ◌-◌, ◌/◌, ◌<◌, ◌≤◌, max, ◌&&◌, List, [], ◌∷◌, eqb, ltb, leb, length, replicate, drop}
+use Rattle.std.specs.Prelude.{ℕ, zero, suc, Option, Some, None, ◌+◌, ◌-◌, ◌/◌, ◌<◌, ◌≤◌, max, ◌&&◌, List, [], ◌∷◌, eqb, ltb, leb, length, replicate, drop}
 use Rattle.numbers.specs.Bytes.{pick}
-use Rattle.blocks.specs.declared.Found.{Found}
-use Rattle.blocks.specs.declared.Found.TheVariants.{Block, Missing}
+use Rattle.blocks.specs.declared.BlockNumber.{BlockNumber}
 
 -- the bytes of a block
 abbrev pub block_size : ℕ
@@ -87,6 +86,10 @@ nth_number owner n (o ∷ map) = pick (eqb o owner) (pick (eqb n 0) 0 (suc (nth_
 abbrev pub nth_from : ℕ → ℕ → ℕ → List ℕ → ℕ
 nth_from owner b n map = b + nth_number owner n (drop b map)
 
+-- the block of a number that was looked for, if it lies inside the map
+unfoldable pub found_at : ℕ → List ℕ → Option BlockNumber
+found_at b map = pick (ltb b (length map)) (Some (record { 0 = b })) None
+
 -- an owner's block as an answer
-unfoldable pub nth_block : ℕ → ℕ → List ℕ → Found
-nth_block owner n map = pick (ltb (nth_number owner n map) (length map)) (Block (record { 0 = nth_number owner n map })) Missing
+unfoldable pub nth_block : ℕ → ℕ → List ℕ → Option BlockNumber
+nth_block owner n map = found_at (nth_number owner n map) map

@@ -6,15 +6,15 @@
 ghost use Rattle.std.specs.Prelude.{◌≡◌, ◌+◌, ◌*◌, ◌≤◌, ◌<◌, min, eqb, ltb, leb, ◌&&◌, ◌++◌, length, take, drop};
 ghost use denote.Ref.{at_last};
 ghost use Rattle.numbers.specs.Bytes.{pick};
-ghost use Rattle.blocks.specs.Map.{block_size, free, needed_for, free_map, held_by, free_in, claimed, looked_for, released, nth_number, nth_from, nth_block};
+ghost use Rattle.blocks.specs.Map.{block_size, free, needed_for, free_map, held_by, free_in, claimed, looked_for, released, nth_from, nth_block, found_at};
 ghost use Rattle.blocks.specs.Pool.{Sized, over, appended, appended_from, delivered, delivered_from};
 
 // A block's place in the pool: block b has the BLOCK_SIZE bytes from BLOCK_SIZE * b on.
-#[derive(Clone, Copy)]
+#[derive(Clone, Copy, PartialEq, Eq)]
 pub struct BlockNumber(pub usize);
 
 // Whose a block is; FREE is nobody's.
-#[derive(Clone, Copy)]
+#[derive(Clone, Copy, PartialEq, Eq)]
 pub struct Owner(pub u8);
 
 // The block to look from, and how many of an owner's blocks still lie before the one looked for.
@@ -24,18 +24,11 @@ struct Skipped {
     left: usize,
 }
 
-// A free block that was looked for, or the map's end, and how many blocks have been looked at by then.
+// What a search for a free block came to: the block, or none up to the map's end, and how many blocks have been looked at by then.
 #[derive(Drop)]
 struct Sought {
-    block: BlockNumber,
+    block: Option<BlockNumber>,
     looked: usize,
-}
-
-// One of an owner's blocks, or that it has not so many.
-#[derive(Clone, Copy)]
-pub enum Found {
-    Block(BlockNumber),
-    Missing,
 }
 
 // Bytes of a block.
@@ -57,47 +50,30 @@ const GROUP: usize = 64;
 const FEW: usize = 16;
 
 // The map in which every block is free.
+#[tactic(auto, unfolding(crate::specs::Map::free_map))]
 pub fn free_map() -> [u8; BLOCK_COUNT]
     ensures { result ≡ free_map }
 {
     [FREE; BLOCK_COUNT]
 }
 
-// How many blocks so many bytes need: (total + 255) / 256, without a sum that could wrap.
+// How many blocks so many bytes need.
+#[tactic(auto, unfolding(crate::specs::Map::needed_for))]
 pub fn blocks_needed(total: usize) -> usize
     ensures { result ≡ needed_for total }
 {
-    let whole = total / BLOCK_SIZE;
-    if total % BLOCK_SIZE == 0 {
-        whole
-    } else {
-        whole + 1
-    }
+    total.div_ceil(BLOCK_SIZE)
 }
 
-fn wide(b: u8) -> usize
-    ensures { result ≡ b }
-{
-    b as usize
-}
-
-// One where an entry is the owner's, else none: a number and no branch, so that counting takes many entries a step.
-fn one_if_same(entry: u8, owner: u8) -> u8
-    ensures { result ≡ pick (eqb entry owner) 1 0 }
-{
-    if entry == owner { 1 } else { 0 }
-}
-
-// How many entries are the owner's. The bound is what makes the count fit a byte; both callers cut the map into groups.
+// How many entries are the owner's. The bound is what makes the count fit a byte; both callers cut the map into groups. A test as a number and no branch, so
+// that counting takes many entries a step.
 fn count_group(entries: &[u8], owner: u8) -> u8
     requires { length entries.now ≤ 64 }
     ensures { result ≡ held_by owner entries.now }
 {
     let mut count: u8 = 0;
-    let mut i: usize = 0;
-    while i < entries.len() {
-        count += one_if_same(entries[i], owner);
-        i += 1;
+    for &entry in entries {
+        count += u8::from(entry == owner);
     }
     count
 }
@@ -106,17 +82,12 @@ fn count_group(entries: &[u8], owner: u8) -> u8
 pub fn held(map: &[u8], owner: Owner) -> usize
     ensures { result ≡ held_by owner.0 map.now }
 {
-    let number = owner.0;
+    let (groups, rest) = map.as_chunks::<GROUP>();
     let mut count: usize = 0;
-    let mut from = BlockNumber(0);
-    while GROUP <= map.len() - from.0 {
-        let start = from.0;
-        let end = start + GROUP;
-        count += wide(count_group(&map[start..end], number));
-        from = BlockNumber(end);
+    for group in groups {
+        count += usize::from(count_group(group, owner.0));
     }
-    let start = from.0;
-    count + wide(count_group(&map[start..], number))
+    count + usize::from(count_group(rest, owner.0))
 }
 
 // How many blocks are free.
@@ -124,6 +95,23 @@ pub fn free_count(map: &[u8]) -> usize
     ensures { result ≡ free_in map.now }
 {
     held(map, Owner(FREE))
+}
+
+// An owner's block at the place n among those from a block on, entry by entry. Map, owner and pool stay parameters here and below: they are lent apart, and C
+// hands them over one by one.
+fn scan(map: &[u8], owner: u8, from: BlockNumber, n: usize) -> Option<BlockNumber>
+    ensures { result ≡ found_at (nth_from owner from.0 n map.now) map.now }
+{
+    let mut left = n;
+    for i in from.0..map.len() {
+        if map[i] == owner {
+            if left == 0 {
+                return Some(BlockNumber(i));
+            }
+            left -= 1;
+        }
+    }
+    None
 }
 
 // An entry after an owner took it, if it was free.
@@ -140,32 +128,31 @@ fn claim_all(entries: &mut [u8], number: u8) -> u8
     ensures entries_after { entries.new ≡ claimed number (length entries.old) entries.old }
 {
     let mut count: u8 = 0;
-    let mut i: usize = 0;
-    while i < entries.len() {
-        let entry = entries[i];
-        count += one_if_same(entry, FREE);
-        entries[i] = entry_claimed(entry, number);
-        i += 1;
+    for entry in entries {
+        count += u8::from(*entry == FREE);
+        *entry = entry_claimed(*entry, number);
     }
     count
 }
 
 // Looks at one block after another, from a block on, up to a free one or to the map's end, and counts those that it looks at on from `before`.
+// Each look is counted when it is made, as document 02's A3 asks: a count from the found block's place would be right for any search.
 fn seek(map: &[u8], first: BlockNumber, before: usize) -> Sought
     requires { before ≤ first.0 }
-    ensures { (result.block.0 ≡ nth_from free first.0 0 map.now) × (result.looked ≡ before + looked_for 1 (drop first.0 map.now)) }
+    ensures { (result.block ≡ found_at (nth_from free first.0 0 map.now) map.now) × (result.looked ≡ before + looked_for 1 (drop first.0 map.now)) }
 {
     let mut looked = before;
-    let mut block = first;
-    while block.0 < map.len() {
-        let i = block.0;
-        looked = looked + 1;
+    for i in first.0..map.len() {
+        looked += 1;
         if map[i] == FREE {
+            let block = Some(BlockNumber(i));
             return Sought { block, looked };
         }
-        block = BlockNumber(i + 1);
     }
-    Sought { block, looked }
+    Sought {
+        block: None,
+        looked,
+    }
 }
 
 // The same as `claim` from a block on, one block at a time: the search for each resumes behind the one found last.
@@ -180,25 +167,23 @@ fn claim_singly(
     ensures value { result ≡ before + looked_for count (drop first.0 map.old) }
     ensures map_after { map.new ≡ take first.0 map.old ++ claimed number count (drop first.0 map.old) }
 {
-    let mut wanted = count;
     let mut looked = before;
     let mut from = first;
-    while 0 < wanted {
+    for _ in 0..count {
         let found = seek(map, from, looked);
         looked = found.looked;
-        let i = found.block.0;
-        if map.len() <= i {
+        let Some(block) = found.block else {
             return looked;
-        }
-        map[i] = number;
-        wanted -= 1;
-        from = BlockNumber(i + 1);
+        };
+        map[block.0] = number;
+        from = BlockNumber(block.0 + 1);
     }
     looked
 }
 
 // Gives the lowest `count` free blocks, or all of them if there are fewer, to an owner, and tells how many blocks it looked at for that: each once, up to the
-// last one found. Where FEW or more are still wanted, that one does not lie before the end of the next FEW, so these are looked at in one step.
+// last one found. Where FEW or more are still wanted, that one does not lie before the end of the next FEW, so these are looked at in one step. No `for`: what
+// a step finds says whether there is another.
 pub fn claim(map: &mut [u8], count: usize, owner: Owner) -> usize
     ensures value { result ≡ looked_for count map.old }
     ensures map_after { map.new ≡ claimed owner.0 count map.old }
@@ -207,11 +192,11 @@ pub fn claim(map: &mut [u8], count: usize, owner: Owner) -> usize
     let mut wanted = count;
     let mut looked: usize = 0;
     let mut from = BlockNumber(0);
-    while FEW <= numbers::least(wanted, map.len() - from.0) {
+    while FEW <= wanted.min(map.len() - from.0) {
         let start = from.0;
         let end = start + FEW;
-        wanted -= wide(claim_all(&mut map[start..end], number));
-        looked = looked + FEW;
+        wanted -= usize::from(claim_all(&mut map[start..end], number));
+        looked += FEW;
         from = BlockNumber(end);
     }
     claim_singly(map, wanted, number, from, looked)
@@ -232,73 +217,37 @@ fn entry_after(entry: u8, low: u8, high: u8) -> u8
 pub fn release(map: &mut [u8], low: Owner, high: Owner)
     ensures { map.new ≡ released low.0 high.0 map.old }
 {
-    let first = low.0;
-    let last = high.0;
-    let mut i: usize = 0;
-    while i < map.len() {
-        map[i] = entry_after(map[i], first, last);
-        i += 1;
+    for entry in map {
+        *entry = entry_after(*entry, low.0, high.0);
     }
-}
-
-// An owner's block at the place n among those from a block on, entry by entry; the map's length if it has not so many.
-fn scan(map: &[u8], owner: u8, from: BlockNumber, n: usize) -> BlockNumber
-    ensures { result.0 ≡ nth_from owner from.0 n map.now }
-{
-    let mut left = n;
-    let mut block = from;
-    while block.0 < map.len() {
-        let i = block.0;
-        if map[i] == owner {
-            if left == 0 {
-                return block;
-            }
-            left -= 1;
-        }
-        block = BlockNumber(i + 1);
-    }
-    block
 }
 
 // Passes over groups of entries, from a block on, while the block looked for lies behind them.
-fn skip(map: &[u8], owner: u8, first: BlockNumber, n: usize, group: usize) -> Skipped
-    requires { (first.0 ≤ length map.now) × (1 ≤ group) × (group ≤ 64) }
+fn skip<const SIZE: usize>(map: &[u8], owner: u8, first: BlockNumber, n: usize) -> Skipped
+    requires { (first.0 ≤ length map.now) × (1 ≤ SIZE) × (SIZE ≤ 64) }
     ensures { (result.from.0 ≤ length map.now) × (nth_from owner result.from.0 result.left map.now ≡ nth_from owner first.0 n map.now) }
 {
     let mut left = n;
     let mut from = first;
-    while group <= map.len() - from.0 {
-        let start = from.0;
-        let end = start + group;
-        let here = wide(count_group(&map[start..end], owner));
+    let (groups, _) = map[first.0..].as_chunks::<SIZE>();
+    for group in groups {
+        let here = usize::from(count_group(group, owner));
         if left < here {
             return Skipped { from, left };
         }
         left -= here;
-        from = BlockNumber(end);
+        from = BlockNumber(from.0 + SIZE);
     }
     Skipped { from, left }
 }
 
-// The same as scan from the first block on, by counting: only the last few entries are gone through one by one.
-fn find_block(map: &[u8], owner: u8, n: usize) -> BlockNumber
-    ensures { result.0 ≡ nth_number owner n map.now }
-{
-    let far = skip(map, owner, BlockNumber(0), n, GROUP);
-    let near = skip(map, owner, far.from, far.left, FEW);
-    scan(map, owner, near.from, near.left)
-}
-
-// An owner's block at the place n, from 0, in rising order.
-pub fn nth_block(map: &[u8], owner: Owner, n: usize) -> Found
+// An owner's block at the place n, from 0, in rising order: found by counting, and only the last few entries are gone through one by one.
+pub fn nth_block(map: &[u8], owner: Owner, n: usize) -> Option<BlockNumber>
     ensures { result ≡ nth_block owner.0 n map.now }
 {
-    let block = find_block(map, owner.0, n);
-    if block.0 < map.len() {
-        Found::Block(block)
-    } else {
-        Found::Missing
-    }
+    let far = skip::<GROUP>(map, owner.0, BlockNumber(0), n);
+    let near = skip::<FEW>(map, owner.0, far.from, far.left);
+    scan(map, owner.0, near.from, near.left)
 }
 
 // Whether a block starts inside so many bytes.
@@ -327,7 +276,7 @@ fn overwrite(source: &[u8], at: usize, target: &mut [u8])
     ensures { target.new ≡ over at source.now target.old }
 {
     if at < target.len() {
-        let n = numbers::least(source.len(), target.len() - at);
+        let n = source.len().min(target.len() - at);
         let end = at + n;
         copy_block(&source[0..n], &mut target[at..end]);
     }
@@ -341,22 +290,21 @@ fn fill(map: &[u8], owner: u8, first: BlockNumber, at: usize, payload: &[u8], po
 {
     let mut from = first;
     let mut place = at;
-    let mut done: usize = 0;
-    while done < payload.len() {
-        let block = scan(map, owner, from, 0);
-        if map.len() <= block.0 {
+    let mut rest = payload;
+    while !rest.is_empty() {
+        let Some(block) = scan(map, owner, from, 0) else {
+            return;
+        };
+        if !starts_inside(block, pool.len()) {
             return;
         }
-        if starts_inside(block, pool.len()) {
-            let start = BLOCK_SIZE * block.0;
-            let end = start + numbers::least(BLOCK_SIZE, pool.len() - start);
-            overwrite(&payload[done..], place, &mut pool[start..end]);
-            done = done + numbers::least(BLOCK_SIZE - place, payload.len() - done);
-            place = 0;
-            from = BlockNumber(block.0 + 1);
-        } else {
-            return;
-        }
+        let start = BLOCK_SIZE * block.0;
+        let end = start + BLOCK_SIZE.min(pool.len() - start);
+        overwrite(rest, place, &mut pool[start..end]);
+        let taken = rest.len().min(BLOCK_SIZE - place);
+        rest = &rest[taken..];
+        place = 0;
+        from = BlockNumber(block.0 + 1);
     }
 }
 
@@ -365,14 +313,14 @@ fn fill(map: &[u8], owner: u8, first: BlockNumber, at: usize, payload: &[u8], po
 pub fn append(map: &[u8], owner: Owner, at: usize, payload: &[u8], pool: &mut [u8])
     ensures { pool.new ≡ appended owner.0 at payload.now map.now pool.old }
 {
-    let number = owner.0;
     if at < BLOCK_SIZE {
-        fill(map, number, BlockNumber(0), at, payload, pool);
+        fill(map, owner.0, BlockNumber(0), at, payload, pool);
         return;
     }
     let place = at % BLOCK_SIZE;
-    let block = find_block(map, number, at / BLOCK_SIZE);
-    fill(map, number, block, place, payload, pool);
+    if let Some(block) = nth_block(map, owner, at / BLOCK_SIZE) {
+        fill(map, owner.0, block, place, payload, pool);
+    }
 }
 
 // Writes the next `due` bytes of the owner's blocks, from a block on, to out from a place on: it copies one block and calls itself for the rest.
@@ -395,13 +343,12 @@ fn deliver_from(
         return;
     }
     let entries = *map;
-    let block = scan(entries, owner.0, from, 0);
-    if block.0 < entries.len() {
+    if let Some(block) = scan(entries, owner.0, from, 0) {
         let bytes = *pool;
         if starts_inside(block, bytes.len()) {
             let start = BLOCK_SIZE * block.0;
-            let size = numbers::least(BLOCK_SIZE, bytes.len() - start);
-            let n = numbers::least(size, due);
+            let size = BLOCK_SIZE.min(bytes.len() - start);
+            let n = size.min(due);
             let end = start + n;
             overwrite(&bytes[start..end], at, *out);
             let next = BlockNumber(block.0 + 1);
@@ -420,7 +367,7 @@ fn deliver_whole<'a>(
 ) -> &'a mut [u8]
     ensures { result ≡ at_last out.entry (delivered owner.0 due map.now pool.now out.old) }
 {
-    let most = numbers::least(due, out.len());
+    let most = due.min(out.len());
     let mut lent = out;
     deliver_from(&map, owner, BlockNumber(0), 0, most, &pool, &mut lent);
     let back = lent;

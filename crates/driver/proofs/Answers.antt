@@ -1,17 +1,17 @@
 -- The answers to the commands that need no link: the out buffer that is lent, and what is inside a message, read or written. Assumes nothing.
-use Rattle.std.proofs.Common.{◌≡◌, ℕ, ◌-◌, min, List, length, take, drop, sym, ap, ◌∙◌, arith, length-drop, take_all}
+use Rattle.std.proofs.Common.{◌≡◌, ℕ, min, List, length, take, drop, sym, ap, ◌∙◌, arith, length-drop, take_all, Result, Ok}
 use lib.ListN.{length-replicate}
 use Rattle.numbers.specs.Bytes.{part}
 use Rattle.text.specs.declared.Text.{Text}
 use Rattle.text.specs.Said.{said, Started}
-use Rattle.text.proofs.Lists.{take_min}
+use Rattle.std.proofs.lemmas.List.{take_min}
 use Rattle.frame.specs.Write.{Wrote}
 use Rattle.words.specs.declared.Command.{Command}
 use Rattle.rpc.specs.declared.Form.{Form}
 use Rattle.rpc.specs.declared.Header as message
 use Rattle.rpc.specs.declared.Parts.{Parts}
-use Rattle.rpc.specs.declared.Reading as parsed
-use Rattle.rpc.specs.declared.Reading.TheVariants.{Message, Bare}
+use Rattle.rpc.specs.declared.Content.{Content}
+use Rattle.rpc.specs.declared.Content.TheVariants.{Message, Bare}
 use Rattle.rpc.specs.Layout as layout
 use Rattle.rpc.specs.Read as rpcRead
 use Rattle.rpc.specs.Write as rpcWrite
@@ -24,21 +24,21 @@ unfolding untouched_out
 untouched_length = length-replicate {A = ℕ} 131084 238
 
 -- the front of it that is lent, as much as there is
-pub lent_front : (n : ℕ) {k : ℕ} {o : List ℕ} → o ≡ untouched_out → k ≡ min n 131084 → take (k - 0) o ≡ take n untouched_out
+pub lent_front : (n : ℕ) {k : ℕ} {o : List ℕ} → o ≡ untouched_out → k ≡ min n 131084 → take k o ≡ take n untouched_out
 lent_front n {k} {o} e h =
-    let z : k - 0 ≡ min n (length untouched_out) = omega (arith, h, untouched_length) in
+    let z : k ≡ min n (length untouched_out) = omega (arith, h, untouched_length) in
     rw (z, e) (take_min n untouched_out)
 
 -- the line of what was read: a text, and the parts of the payload behind it
-module _ (s : List ℕ) {r : parsed.Reading} {t : Text} {p : Parts} {w : List ℕ} (laid : w ≡ parts_behind (said t) (take 150000 s) p) where
-  pub message_line : {h : message.Header} {n : ℕ} → r ≡ Message h n p → Started (fields_text (layout.fields_of h n)) t → w ≡ rpc_by s r
+module _ (s : List ℕ) {r : Result Content ℕ} {t : Text} {p : Parts} {w : List ℕ} (laid : w ≡ parts_behind (said t) (take 150000 s) p) where
+  pub message_line : {h : message.Header} {n : ℕ} → r ≡ Ok (Message h n p) → Started (fields_text (layout.fields_of h n)) t → w ≡ rpc_by s r
   message_line told f = laid ∙ ap (λ (x : List ℕ). parts_behind x (take 150000 s) p) f.says ∙ ap (rpc_by s) (sym told)
 
-  pub bare_line : r ≡ Bare p → Started bare_text t → w ≡ rpc_by s r
+  pub bare_line : r ≡ Ok (Bare p) → Started bare_text t → w ≡ rpc_by s r
   bare_line told f = laid ∙ ap (λ (x : List ℕ). parts_behind x (take 150000 s) p) f.says ∙ ap (rpc_by s) (sym told)
 
 -- what was read of the bytes that a line says
-module _ (c : Command) (s : List ℕ) {f : Form} {v : ℕ} {r : parsed.Reading} where
+module _ (c : Command) (s : List ℕ) {f : Form} {v : ℕ} {r : Result Content ℕ} where
   pub rpc_read : f ≡ form_at c → v ≡ byte_at c 1 → r ≡ rpcRead.read_of f v s → {w : List ℕ} → w ≡ rpc_by s r → w ≡ rpc_answer c s
   rpc_read form version read e =
       let all = read ∙ ap (λ (x : Form). rpcRead.read_of x v s) form ∙ ap (λ (x : ℕ). rpcRead.read_of (form_at c) x s) version in

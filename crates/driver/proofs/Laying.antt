@@ -1,6 +1,6 @@
 -- A line laid into its buffer piece by piece: the characters before the digits, the digits, and the characters behind them; or characters and two words. By the laws of take, drop and
 -- append. Assumes nothing.
-use Rattle.std.proofs.Common.{◌≡◌, ℕ, ◌+◌, ◌-◌, ◌*◌, ◌≤◌, min, ◌≢◌, List, [], ◌∷◌, ◌++◌, length, take, drop, refl, ap, ◌∙◌, arith, length-drop, length-take, take_all, eq-eqb, ne_eqb}
+use Rattle.std.proofs.Common.{◌≡◌, ℕ, ◌+◌, ◌-◌, ◌*◌, ◌≤◌, min, List, [], ◌∷◌, ◌++◌, length, take, drop, refl, ap, ◌∙◌, arith, length-drop, length-take, take_all, eq-eqb, ne_eqb, eqb, false}
 use lib.Seq.{take-append_seam}
 use Rattle.numbers.proofs.Choices.{same_or_not}
 use Rattle.numbers.specs.Bytes.{part}
@@ -74,8 +74,8 @@ module _ (b o : List ℕ) (at : ℕ) (room : at + (2 + 2 * length b) ≤ length 
   pub space_put : {n : ℕ} {p : List ℕ} → n ≡ min at (length o) + length (fitting o at (32 ∷ [])) → p ≡ put_into o at (32 ∷ []) → Appended at (32 ∷ []) o n p
   space_put f g = all_put (32 ∷ []) o at (omega arith) f g
 
-  pub word_put : {n m : ℕ} {p q : List ℕ} → length b ≢ 0 → Appended at (32 ∷ []) o n p → Appended n (hex_of b) p m q → Appended at (word_text b) o m q
-  word_put z e f = rw (ne_eqb (length b) 0 z) (more (32 ∷ []) (hex_of b) (omega arith) e f)
+  pub word_put : {n m : ℕ} {p q : List ℕ} → eqb (length b) 0 ≡ false → Appended at (32 ∷ []) o n p → Appended n (hex_of b) p m q → Appended at (word_text b) o m q
+  word_put z e f = rw z (more (32 ∷ []) (hex_of b) (omega arith) e f)
 
 -- ---- characters, JSON and bulk data
 

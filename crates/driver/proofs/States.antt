@@ -168,13 +168,13 @@ module _ {t : Text} (l : length t.chars ≡ 4096) (row place : ℕ) (owners : Li
       let e : i.parts ≡ messages_from row place owners (drop place ms) i.parts = rw (drop_of_length-le ms {i = place} h) in
       renamed (ap or_dash (e ∙ i.leads)) (ends_list l i.has g)
 
--- ---- sessions, by rising id: the ids behind `id` are left
+-- ---- sessions, by rising id: those from `id` on are left
 
-session_turn : (link : Link) (id : ℕ) (s : List ℕ) → id < 255
-    → sessions_from link (suc (id + 1)) (255 - (id + 1)) (with_session link (index_of (id + 1) link.rows) s) ≡ sessions_from link (suc id) (255 - id) s
+session_turn : (link : Link) (id : ℕ) (s : List ℕ) → id < 256
+    → sessions_from link (id + 1) (256 - (id + 1)) (with_session link (index_of id link.rows) s) ≡ sessions_from link id (256 - id) s
 unfolding sessions_from
 session_turn link id s h =
-    let z : 255 - id ≡ suc (255 - (id + 1)) = omega arith in
+    let z : 256 - id ≡ suc (256 - (id + 1)) = omega arith in
     rw (z, add-one id)
 
 -- a session's text behind a mark, by the row and the owners that were read off a state
@@ -185,7 +185,7 @@ session_read mark s i {row} {owners} e f g =
 
 -- the sessions of a state so far
 abbrev pub Sessions : Text → List ℕ → ℕ → Text → Type 0
-Sessions t s id u = Listing t (sessions_from (link_of s) (suc id) (255 - id)) (sessions_from (link_of s) 1 255 []) u
+Sessions t s id u = Listing t (sessions_from (link_of s) id (256 - id)) (sessions_from (link_of s) 1 255 []) u
 
 -- where an id stands among the ids is where it stands among the rows
 pub found_in : (s : List ℕ) (id : ℕ) {ids : List SessionId} {k : ℕ} → ids ≡ map (λ (r : Row). r.id) (link_of s).rows → k ≡ index_in (record { 0 = id }) ids
@@ -194,26 +194,26 @@ found_in s id e f = f ∙ ap (index_in (record { 0 = id })) e ∙ index_ids (rec
 
 module _ {t : Text} (s : List ℕ) (id : ℕ) {u : Text} (i : Sessions t s id u) where
   -- what is left behind this id, if row k has it and if none has
-  after_id : {k : ℕ} → id < 255 → k ≡ index_of (id + 1) (link_of s).rows → (hit : Bool) → ltb k 8 ≡ hit
+  after_id : {k : ℕ} → id < 256 → k ≡ index_of id (link_of s).rows → (hit : Bool) → ltb k 8 ≡ hit
       → let row = session_text (get_or (link_of s).rows k no_row) k (link_of s).owners in
-      sessions_from (link_of s) (suc (id + 1)) (255 - (id + 1)) (pick hit (joined 59 i.parts row) i.parts) ≡ sessions_from (link_of s) 1 255 []
+      sessions_from (link_of s) (id + 1) (256 - (id + 1)) (pick hit (joined 59 i.parts row) i.parts) ≡ sessions_from (link_of s) 1 255 []
   after_id {k} h q hit y =
       let row : List ℕ = session_text (get_or (link_of s).rows k no_row) k (link_of s).owners in
-      let after : List ℕ → List ℕ = sessions_from (link_of s) (suc (id + 1)) (255 - (id + 1)) in
+      let after : List ℕ → List ℕ = sessions_from (link_of s) (id + 1) (256 - (id + 1)) in
       ap (λ (b : Bool). after (pick b (joined 59 i.parts row) i.parts)) (sym y)
       ∙ ap (λ (n : ℕ). after (with_session (link_of s) n i.parts)) q
       ∙ session_turn (link_of s) id i.parts h
       ∙ i.leads
 
   -- no row has this id
-  pub id_passed : {k : ℕ} → id < 255 → k ≡ index_of (id + 1) (link_of s).rows → 8 ≤ k → Sessions t s (id + 1) u
+  pub id_passed : {k : ℕ} → id < 256 → k ≡ index_of id (link_of s).rows → 8 ≤ k → Sessions t s (id + 1) u
   id_passed {k} h q n = record { parts = i.parts; has = i.has; leads = after_id h q false (le-ltb k 8 n) }
 
-  pub session_listed : {k : ℕ} {w : Text} → length t.chars ≡ 4096 → id < 255 → k ≡ index_of (id + 1) (link_of s).rows → k < 8
+  pub session_listed : {k : ℕ} {w : Text} → length t.chars ≡ 4096 → id < 256 → k ≡ index_of id (link_of s).rows → k < 8
       → Longer u (pick (leb u.end t.end) [] (59 ∷ []) ++ session_text (row_in s k) k (link_of s).owners) w → Sessions t s (id + 1) w
   session_listed {k} l h q n g =
       let said : List ℕ = session_text (row_in s k) k (link_of s).owners in
-      let after : List ℕ → List ℕ = sessions_from (link_of s) (suc (id + 1)) (255 - (id + 1)) in
+      let after : List ℕ → List ℕ = sessions_from (link_of s) (id + 1) (256 - (id + 1)) in
       let read : row_in s k ≡ get_or (link_of s).rows k no_row = sym (row_of_link s no_row k n) in
       record {
         parts = joined 59 i.parts said;
@@ -221,10 +221,10 @@ module _ {t : Text} (s : List ℕ) (id : ℕ) {u : Text} (i : Sessions t s id u)
         leads = ap (λ (r : Row). after (joined 59 i.parts (session_text r k (link_of s).owners))) read ∙ after_id h q true (lt-ltb k 8 n);
       }
 
-  pub sessions_end : {r : Text} → length t.chars ≡ 4096 → 255 ≤ id → Longer u (pick (leb u.end t.end) (45 ∷ []) []) r
+  pub sessions_end : {r : Text} → length t.chars ≡ 4096 → 256 ≤ id → Longer u (pick (leb u.end t.end) (45 ∷ []) []) r
       → Longer t (or_dash (sessions_from (link_of s) 1 255 [])) r
   unfolding sessions_from
   sessions_end l h g =
-      let z : 255 - id ≡ 0 = omega arith in
-      let q : i.parts ≡ sessions_from (link_of s) (suc id) (255 - id) i.parts = rw z in
+      let z : 256 - id ≡ 0 = omega arith in
+      let q : i.parts ≡ sessions_from (link_of s) id (256 - id) i.parts = rw z in
       renamed (ap or_dash (q ∙ i.leads)) (ends_list l i.has g)

@@ -1,6 +1,9 @@
 -- The pool that `new` fills, the answer of a call as a line, and what a line leaves. Assumes nothing.
 use Rattle.std.proofs.Common.{◌≡◌, ℕ, suc, ◌+◌, ◌-◌, ◌%◌, ◌<◌, ◌≤◌, min, true, eqb, List, [], ◌++◌, length, take, set, ap, ◌∙◌, append-nil, add-one, arith, take_all, take-suc-set}
 use lib.Seq.{append_snoc}
+use Rattle.std.proofs.Common.{Result, Ok, Err, refl}
+use Rattle.std.specs.Result.{is_ok, IfErr}
+use Rattle.figures.specs.Refusal.{refusal_in}
 use Rattle.text.specs.declared.Text.{Text}
 use Rattle.text.specs.Said.{Started, Longer}
 use Rattle.words.specs.declared.Command.{Command}
@@ -30,6 +33,11 @@ module _ (pool : List ℕ) (next i n : ℕ) (all : length pool ≡ n) where
       let z : n - i ≡ 0 = omega arith in
       rw (z, append-nil) (take_all i pool (omega arith))
 
+-- whether it is done is told by its number, since a refusal's is 10
+pub done_is : {A : Type 0} (r : Result A ℕ) → IfErr r (λ n. n ≡ 10) → is_ok r ≡ eqb (refusal_in r) 0
+done_is (Ok u) e = refl
+done_is (Err n) e = rw e
+
 -- what `new` leaves
 pub new_is : (c : Command) (state pool : List ℕ) {v : Version} {mtu : ℕ} {m : Made} {p w : List ℕ} {t : Text}
     → v ≡ version_of c → mtu ≡ wide_at c 3 → m ≡ create_in state v mtu → p ≡ new_pool pool → Started (created_text m.refused) t → w ≡ text_line t []
@@ -50,6 +58,6 @@ module _ (c : Command) (input state pool out : List ℕ) where
       → t ≡ called_of c input state pool out
   call_is e f h = h ∙ ap called_by (f ∙ ap (λ (x : Grant). told_of (call_in state pool input out x)) e)
 
-  pub lent_call_is : {n : ℕ} {t : Left} → out ≡ untouched_out → n ≡ min c.lent 131084 → t ≡ called_of c input state pool (take (n - 0) out)
+  pub lent_call_is : {n : ℕ} {t : Left} → out ≡ untouched_out → n ≡ min c.lent 131084 → t ≡ called_of c input state pool (take n out)
       → t ≡ called_of c input state pool (lent_out c)
   lent_call_is e f h = h ∙ ap (called_of c input state pool) (lent_front c.lent e f)

@@ -1,17 +1,19 @@
 -- What a whole line does: the link's state, the pool and the line that answers it; docs/DRIVER.md, `new` and `call`. What these calls do is `create_in` and
 -- `call_in` (state/specs/Calls), a call's answer by number and values (link/specs/Values). Assumes nothing.
-use Rattle.std.specs.Prelude.{ℕ, zero, suc, ◌+◌, ◌%◌, Bool, true, false, ◌&&◌, List, [], ◌∷◌, ◌++◌, length, take, ◌==◌}
+use Rattle.std.specs.Prelude.{ℕ, zero, suc, ◌+◌, ◌%◌, Bool, true, List, [], ◌∷◌, ◌++◌, length, take, ◌==◌}
 use Rattle.numbers.specs.Bytes.{pick}
 use Rattle.lines.specs.Hex.{hex_of}
 use Rattle.lines.specs.Decimal.{decimal_of}
 use Rattle.text.specs.Pieces.{check_of}
 use Rattle.words.specs.declared.Command.{Command}
+use Rattle.words.specs.declared.Kind as words
+use Rattle.words.specs.declared.Kind.TheVariants as kind
 use Rattle.payload.specs.declared.version.Version.{Version}
 use Rattle.link.specs.declared.Grant.{Grant}
 use Rattle.link.specs.Values.{Kind, short, refused, reply, silent, delivery, Values, service_bytes}
 use Rattle.state.specs.Layout.{link_of}
 use Rattle.state.specs.Calls.{call_in, Told, told_of, Made, create_in}
-use Rattle.driver.specs.declared.calls.Turn as Turns
+use Rattle.driver.specs.declared.calls.Store.{Store}
 use Rattle.driver.specs.Spelling.{Spelled, plain, with_hex, behind, line_of, letter_and, refused_text}
 use Rattle.driver.specs.Answers.{byte_at, half_at, wide_at, lent_out, plain_line, answer_to}
 use Rattle.driver.specs.States.{state_text}
@@ -26,13 +28,9 @@ pub record Left : Type 0 where
 abbrev pub leaving : Bool → List ℕ → List ℕ → List ℕ → Left
 leaving linked state pool written = record { linked = linked; state = state; pool = pool; written = written }
 
--- the same, as the code answers it: so many characters at the front of the line buffer
-abbrev pub left : Turns.Turn → List ℕ → List ℕ → List ℕ → Left
-left t state pool line = leaving t.linked state pool (take t.count line)
-
--- before the first line there is no link, and nothing is written
-abbrev pub no_turn : Turns.Turn
-no_turn = record { linked = false; count = 0 }
+-- the same, as the code answers it
+abbrev pub left : Bool → Store → List ℕ → Left
+left linked s written = leaving linked s.state s.pool written
 
 -- ---- new M m p MTU
 
@@ -91,8 +89,11 @@ abbrev pub called_of : Command → List ℕ → List ℕ → List ℕ → List �
 called_of c input state pool out = called_by (told_of (call_in state pool input out (grant_of c)))
 
 -- ---- any line: "`call` is answered `?` where there is no link"
+abbrev pub turn_as : words.Kind → Bool → Command → List ℕ → List ℕ → List ℕ → Left
+turn_as kind.New linked c content state pool = new_of c state pool
+turn_as kind.Call linked c content state pool =
+    pick linked (called_of c (take c.count content) state pool (lent_out c)) (leaving linked state pool (answer_to c (take c.count content)))
+turn_as _ linked c content state pool = leaving linked state pool (answer_to c (take c.count content))
+
 unfoldable pub turn_of : Bool → Command → List ℕ → List ℕ → List ℕ → Left
-turn_of linked c content state pool =
-    pick (c.kind == 5) (new_of c state pool)
-    (pick (c.kind == 6 && linked) (called_of c (take c.count content) state pool (lent_out c))
-    (leaving linked state pool (answer_to c (take c.count content))))
+turn_of linked c content state pool = turn_as c.kind linked c content state pool

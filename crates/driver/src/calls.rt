@@ -1,18 +1,20 @@
-// The commands `new` and `call`: they make the link, or call it. Whoever reads the lines keeps whether there is one; its state and the pool are lent.
+// The commands `new` and `call`: they make the link, or call it. Whoever reads the lines keeps whether there is one.
 // It assumes nothing of the line and nothing of the state. No rule of the protocol stands here.
-ghost use Rattle.std.specs.Prelude.{◌≡◌};
+ghost use Rattle.std.specs.Prelude.{◌≡◌, true};
+ghost use Rattle.figures.specs.Refusal.{refusal_in};
 ghost use Rattle.text.specs.Said.{Started, Longer};
 ghost use Rattle.link.specs.declared.Answer.TheVariants.{Delivered};
 ghost use Rattle.link.specs.Values.{values_of};
 ghost use Rattle.state.specs.Calls.{left as left_by, told_of};
 ghost use Rattle.driver.specs.Spelling.{Holds, with_hex, letter_and};
 ghost use Rattle.driver.specs.Answers.{lent_out};
-ghost use Rattle.driver.specs.Turns.{left, no_turn, new_pool, version_of, created_text, new_of, grant_of, answer_line, checks_text, called_by, called_of};
+ghost use Rattle.driver.specs.Turns.{left, new_pool, version_of, created_text, new_of, grant_of, answer_line, checks_text, called_by, called_of};
 
 use crate::{output, sessions};
+use figures::refusal::Refusal;
 use frame::ServiceType;
 use link::{Answer, Grant};
-use output::{OUTLEN, ROOM};
+use output::{Line, OUTLEN};
 use payload::version::Version;
 use state::LENGTH;
 use text::Text;
@@ -20,21 +22,11 @@ use words::Command;
 
 const POOL: usize = 65536;
 
-// What a line gives back: whether there is a link after it, and its answer, so many characters at the front of the line buffer.
+// What is lent to each call of the link: its state's bytes and its pool.
 #[derive(Drop)]
-pub struct Turn {
-    pub linked: bool,
-    pub count: usize,
-}
-
-// Before the first line there is no link, and nothing is answered.
-pub fn no_turn() -> Turn
-    ensures { result ≡ no_turn }
-{
-    Turn {
-        linked: false,
-        count: 0,
-    }
+pub struct Store {
+    pub state: [u8; LENGTH],
+    pub pool: [u8; POOL],
 }
 
 // Byte i of a new pool is (i*7 + 13) mod 256.
@@ -42,21 +34,19 @@ fn fill_pool(pool: &mut [u8])
     ensures { pool.new ≡ new_pool pool.old }
 {
     let mut next: u8 = 13;
-    let mut i: usize = 0;
-    while i < pool.len() {
-        pool[i] = next;
-        next = std::num::wrapping_add_u8(next, 7);
-        i += 1;
+    for byte in pool.iter_mut() {
+        *byte = next;
+        next = next.wrapping_add(7);
     }
 }
 
-fn created_text(refused: u8) -> Text
-    ensures { Started (created_text refused) result }
+fn created_text(created: Result<(), Refusal>) -> Text
+    ensures { Started (created_text (refusal_in created)) result }
 {
-    if refused == 0 {
-        return Text::empty().byte(b'o').byte(b'k');
+    match created {
+        Ok(()) => Text::empty().put(b"ok"),
+        Err(refusal) => Text::refused(refusal.number()),
     }
-    Text::refused(refused)
 }
 
 fn version_of(command: Command) -> Version
@@ -66,24 +56,6 @@ fn version_of(command: Command) -> Version
         major: command.byte(0),
         minor: command.byte(1),
         patch: command.byte(2),
-    }
-}
-
-// new M m p MTU
-pub fn new(
-    command: Command,
-    link: &mut [u8; LENGTH],
-    pool: &mut [u8; POOL],
-    line: &mut [u8; ROOM],
-) -> Turn
-    ensures { left result link.new pool.new line.new ≡ new_of command link.old pool.old }
-{
-    let refused = headunit::create(link, version_of(command), command.wide(3));
-    fill_pool(pool);
-    let count = output::lay_plain(created_text(refused), line);
-    Turn {
-        linked: refused == 0,
-        count,
     }
 }
 
@@ -108,7 +80,7 @@ fn answer_text(answer: Answer) -> Text
 {
     match answer {
         Answer::Short(needed) => Text::answer(b'S', needed),
-        Answer::Refused(number) => Text::refused(number),
+        Answer::Refused(refusal) => Text::refused(refusal.number()),
         Answer::Acked(consumed, size)
         | Answer::Nacked(consumed, size)
         | Answer::Beat(consumed, size) => reply_text(consumed, size),
@@ -125,24 +97,6 @@ fn with_checks(text: Text, out: &[u8], pool: &[u8]) -> Text
     named.put(b" pool=").decimal(text::check(pool)).byte(b' ')
 }
 
-// Spells what a call left: answer, out, pool, state.
-fn spell_called(
-    answer: Answer,
-    link: &[u8; LENGTH],
-    out: &[u8],
-    pool: &[u8],
-    line: &mut [u8; ROOM],
-) -> Turn
-    ensures { left result link.now pool.now line.new ≡ called_by (told_of (left_by answer link.now pool.now out.now)) }
-{
-    let text = with_checks(answer_text(answer), out, pool);
-    let count = output::lay(sessions::with_sessions(text, link), out, line);
-    Turn {
-        linked: true,
-        count,
-    }
-}
-
 fn grant_of(command: Command) -> Grant
     ensures { result ≡ grant_of command }
 {
@@ -153,32 +107,54 @@ fn grant_of(command: Command) -> Grant
     }
 }
 
-// The call with an out buffer.
-fn call_into(
-    command: Command,
-    input: &[u8],
-    link: &mut [u8; LENGTH],
-    pool: &mut [u8; POOL],
-    out: &mut [u8],
-    line: &mut [u8; ROOM],
-) -> Turn
-    ensures { left result link.new pool.new line.new ≡ called_of command input.now link.old pool.old out.old }
-{
-    let answer = headunit::call(link, pool, input, out, grant_of(command));
-    spell_called(answer, link, out, pool, line)
-}
+impl Store {
+    // Before the first line there is no link.
+    pub fn new() -> Store {
+        Store {
+            state: [0; LENGTH],
+            pool: [0; POOL],
+        }
+    }
 
-// call G C HASH OUTLEN HEX
-pub fn call(
-    command: Command,
-    input: &[u8],
-    link: &mut [u8; LENGTH],
-    pool: &mut [u8; POOL],
-    line: &mut [u8; ROOM],
-) -> Turn
-    ensures { left result link.new pool.new line.new ≡ called_of command input.now link.old pool.old (lent_out command) }
-{
-    let mut out = output::untouched();
-    let lent = numbers::least(command.lent as usize, OUTLEN);
-    call_into(command, input, link, pool, &mut out[0..lent], line)
+    // new M m p MTU
+    // Answers whether there is a link after it.
+    pub fn create(&mut self, command: Command, line: &mut Line) -> bool
+        ensures { left result self.new line.new ≡ new_of command self.old.state self.old.pool }
+    {
+        let created = headunit::create(&mut self.state, version_of(command), command.wide(3));
+        fill_pool(&mut self.pool);
+        line.lay_plain(created_text(created));
+        created.is_ok()
+    }
+
+    // Spells what a call left: answer, out, pool, state.
+    fn spell(&self, answer: Answer, out: &[u8], line: &mut Line)
+        ensures { left true self.now line.new ≡ called_by (told_of (left_by answer self.now.state self.now.pool out.now)) }
+    {
+        let text = with_checks(answer_text(answer), out, &self.pool);
+        line.lay(sessions::with_sessions(text, &self.state), out);
+    }
+
+    // The call with an out buffer.
+    fn call_into(&mut self, command: Command, input: &[u8], out: &mut [u8], line: &mut Line)
+        ensures { left true self.new line.new ≡ called_of command input.now self.old.state self.old.pool out.old }
+    {
+        let answer = headunit::call(
+            &mut self.state,
+            &mut self.pool,
+            input,
+            out,
+            grant_of(command),
+        );
+        self.spell(answer, out, line);
+    }
+
+    // call G C HASH OUTLEN HEX
+    pub fn call(&mut self, command: Command, input: &[u8], line: &mut Line)
+        ensures { left true self.new line.new ≡ called_of command input.now self.old.state self.old.pool (lent_out command) }
+    {
+        let mut out = output::untouched();
+        let lent = (command.lent as usize).min(OUTLEN);
+        self.call_into(command, input, &mut out[..lent], line);
+    }
 }

@@ -1,30 +1,26 @@
 // The commands `rpc` and `rpcwrite`: what is inside joined messages. `input` are the bytes that the line says.
 // It assumes nothing of the line. No rule of the protocol stands here.
-ghost use Rattle.std.specs.Prelude.{◌≡◌, take};
+ghost use Rattle.std.specs.Prelude.{◌≡◌};
 ghost use Rattle.frame.specs.Write.{wrote};
 ghost use Rattle.rpc.specs.Layout.{fields_of};
 ghost use Rattle.text.specs.Said.{Started};
 ghost use Rattle.driver.specs.Answers.{form_at, fields_at, message_header, fields_text, bare_text, rpc_wrote_by, rpc_answer};
 
-use crate::output;
-use frame::Written;
-use output::ROOM;
-use rpc::{Fields, Form, Header, Reading};
+use crate::output::Line;
+use figures::refusal::Refusal;
+use rpc::{Content, Fields, Form, Header};
 use text::Text;
 use words::Command;
 
-// The form that the line names.
+// The form that the line names, by the number that `words` gives its name. C's numbers of the forms are the C interface's own (tilambok).
 fn form_of(command: Command) -> Form
     ensures { result ≡ form_at command }
 {
-    let number = command.byte(0);
-    if number == 0 {
-        return Form::Rpc;
+    match command.byte(0) {
+        0 => Form::Rpc,
+        1 => Form::Bulk,
+        _ => Form::Query,
     }
-    if number == 1 {
-        return Form::Bulk;
-    }
-    Form::Query
 }
 
 // Type, function id and correlation id; for a query its type, id and sequence number.
@@ -49,10 +45,10 @@ fn header_of(command: Command) -> Header
 fn fields_text(fields: Fields) -> Text
     ensures { Started (fields_text fields) result }
 {
-    let text = Text::empty().byte(b'P').number8(b' ', fields.kind);
-    text.number32(b' ', fields.id)
-        .number32(b' ', fields.number)
-        .number32(b' ', fields.size)
+    let text = Text::empty().byte(b'P').number(b' ', fields.kind);
+    text.number(b' ', fields.id)
+        .number(b' ', fields.number)
+        .number(b' ', fields.size)
 }
 
 fn message_text(header: Header, size: u32) -> Text
@@ -69,24 +65,22 @@ fn bare_text() -> Text
 }
 
 // rpc FORM version HEX
-pub fn read(command: Command, input: &[u8], line: &mut [u8; ROOM]) -> usize
-    ensures { take result line.new ≡ rpc_answer command input.now }
+pub fn read(command: Command, input: &[u8], line: &mut Line)
+    ensures { line.new ≡ rpc_answer command input.now }
 {
-    let reading = rpc::read(form_of(command), command.byte(1), input);
-    match reading {
-        Reading::Message(header, size, parts) => output::lay_parts(
+    match rpc::read(form_of(command), command.byte(1), input) {
+        Ok(Content::Message(header, size, parts)) => line.lay_parts(
             message_text(header, size),
             input,
             parts,
-            line,
         ),
-        Reading::Bare(parts) => output::lay_parts(bare_text(), input, parts, line),
-        Reading::Refused(number) => output::lay_plain(Text::refused(number), line),
+        Ok(Content::Bare(parts)) => line.lay_parts(bare_text(), input, parts),
+        Err(refusal) => line.lay_plain(Text::refused(refusal.number())),
     }
 }
 
 // rpcwrite FORM version type function correlation size OUTLEN JSON BULK
-pub fn write(command: Command, input: &[u8], out: &mut [u8]) -> Written
+pub fn write(command: Command, input: &[u8], out: &mut [u8]) -> Result<usize, Refusal>
     ensures { wrote result out.new ≡ rpc_wrote_by command input.now out.old }
 {
     let json = text::front(input, command.first);

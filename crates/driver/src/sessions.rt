@@ -1,18 +1,16 @@
 // The open sessions of a link as text: the STATE of docs/DRIVER.md. They are read off the link's state, a row at a time.
 // It assumes nothing of the state.
-ghost use Rattle.std.specs.Prelude.{◌<◌, [], ◌∷◌, ◌++◌, nat_le};
+ghost use Rattle.std.specs.Prelude.{[], ◌∷◌, ◌++◌, nat_le};
 ghost use Rattle.numbers.specs.Bytes.{pick};
 ghost use Rattle.text.specs.Said.{Longer};
 ghost use Rattle.state.specs.Layout.{link_of, row_in};
 ghost use Rattle.driver.specs.States.{blocks_text, counts_text, message_text, messages_text, service_text, running_text, services_text, row_numbers, session_text, state_text};
 
+use figures::service;
 use frame::SessionId;
 use session::{Reassembly, Row, Running};
-use state::LENGTH;
+use state::{LENGTH, RowNumber};
 use text::Text;
-
-// The services, by their places in a row.
-const SERVICES: [u8; 5] = [0x00, 0x07, 0x0a, 0x0b, 0x0f];
 
 // The numbers of an owner's blocks, joined by dots.
 fn with_blocks(text: Text, owners: &[u8], owner: u8) -> Text
@@ -20,12 +18,10 @@ fn with_blocks(text: Text, owners: &[u8], owner: u8) -> Text
 {
     let start = text.end;
     let mut after = text;
-    let mut b: usize = 0;
-    while b < owners.len() {
-        if owners[b] == owner {
-            after = after.joint(start, b'.').decimal(b as u64);
+    for (block, found) in owners.iter().enumerate() {
+        if *found == owner {
+            after = after.joint(start, b'.').decimal(block as u64);
         }
-        b += 1;
     }
     after.same()
 }
@@ -34,11 +30,11 @@ fn with_blocks(text: Text, owners: &[u8], owner: u8) -> Text
 fn with_counts(text: Text, message: Reassembly) -> Text
     ensures { Longer text (counts_text message) result }
 {
-    let mut after = text.number32(b'/', message.id.0);
-    after = after.number32(b'/', message.total);
-    after = after.number32(b'/', message.count);
-    after = after.number32(b'/', message.frames);
-    after = after.number32(b'/', message.missing);
+    let mut after = text.number(b'/', message.id.0);
+    after = after.number(b'/', message.total);
+    after = after.number(b'/', message.count);
+    after = after.number(b'/', message.frames);
+    after = after.number(b'/', message.missing);
     after.byte(b'/')
 }
 
@@ -61,26 +57,14 @@ fn with_message(
 }
 
 // The open messages of row i; the blocks of its message at a place have the owner 1 + 5 * i + place.
-fn with_messages(text: Text, row: Row, i: usize, owners: &[u8]) -> Text
-    requires { i < 8 }
-    ensures { Longer text (messages_text i owners.now row.messages) result }
+fn with_messages(text: Text, row: Row, i: RowNumber, owners: &[u8]) -> Text
+    ensures { Longer text (messages_text i.number owners.now row.messages) result }
 {
-    let messages = row.messages;
     let start = text.end;
     let mut after = text;
-    let mut owner = (5 * i) as u8;
-    let mut place: usize = 0;
-    while place < 5 {
-        owner = std::num::wrapping_add_u8(owner, 1);
-        after = with_message(
-            after,
-            start,
-            messages[place],
-            SERVICES[place],
-            owners,
-            owner,
-        );
-        place += 1;
+    for (place, message) in row.messages.iter().enumerate() {
+        let owner = (1 + 5 * i.number + place) as u8;
+        after = with_message(after, start, *message, service::ALL[place], owners, owner);
     }
     after.listed(start)
 }
@@ -89,7 +73,7 @@ fn with_messages(text: Text, row: Row, i: usize, owners: &[u8]) -> Text
 fn with_service(text: Text, before: u8, service: u8, hash: u32) -> Text
     ensures { Longer text (service_text before service hash) result }
 {
-    text.byte(before).pair(service).number32(b'=', hash)
+    text.byte(before).pair(service).number(b'=', hash)
 }
 
 // A service, if it runs.
@@ -106,26 +90,25 @@ fn with_running(text: Text, service: u8, running: Running) -> Text
 fn with_services(text: Text, row: Row) -> Text
     ensures { Longer text (services_text row) result }
 {
-    let rpc = with_service(text, b',', 0x07, row.hash);
-    let audio = with_running(rpc, 0x0a, row.audio);
-    with_running(audio, 0x0b, row.video)
+    let rpc = with_service(text, b',', service::RPC, row.hash);
+    let audio = with_running(rpc, service::AUDIO, row.audio);
+    with_running(audio, service::VIDEO, row.video)
 }
 
 // id,G,C,version,next
 fn with_numbers(text: Text, row: Row) -> Text
     ensures { Longer text (row_numbers row) result }
 {
-    let mut after = text.decimal(row.id.0 as u64);
-    after = after.number32(b',', row.guarantee as u32);
-    after = after.number32(b',', row.cap as u32);
-    after = after.number8(b',', row.version);
-    after.number32(b',', row.next.0)
+    let mut after = text.decimal(row.id.0);
+    after = after.number(b',', row.guarantee);
+    after = after.number(b',', row.cap);
+    after = after.number(b',', row.version);
+    after.number(b',', row.next.0)
 }
 
 // Row i in a list that begins at `start`: id,G,C,version,next,services,held,messages
-fn with_session(text: Text, start: usize, link: &[u8; LENGTH], i: usize) -> Text
-    requires { i < 8 }
-    ensures { Longer text (pick (nat_le text.end start) [] (59 ∷ []) ++ session_text (row_in link.now i) i (link_of link.now).owners) result }
+fn with_session(text: Text, start: usize, link: &[u8; LENGTH], i: RowNumber) -> Text
+    ensures { Longer text (pick (nat_le text.end start) [] (59 ∷ []) ++ session_text (row_in link.now i.number) i.number (link_of link.now).owners) result }
 {
     let row = state::row_at(link, i);
     let numbers = with_numbers(text.joint(start, b';'), row);
@@ -141,11 +124,8 @@ pub fn with_sessions(text: Text, link: &[u8; LENGTH]) -> Text
     let ids = state::ids(link);
     let start = text.end;
     let mut after = text;
-    let mut id: u8 = 0;
-    while id < 255 {
-        id += 1;
-        let i = rules::index_of(ids, SessionId(id));
-        if i < 8 {
+    for id in 1..=255 {
+        if let Some(i) = rules::index_of(ids, SessionId(id)) {
             after = with_session(after, start, link, i);
         }
     }

@@ -2,3 +2,4 @@ pub mod Refusal
 pub mod Service
 pub mod FrameType
 pub mod Command
+pub mod Reason

@@ -1,6 +1,6 @@
 -- Why a call is refused: document 01's "Answer numbers" with its words, and document 02's of request A1. The names are those of the code (src/refusal).
 -- Assumes nothing.
-use Rattle.std.specs.Prelude.{ℕ}
+use Rattle.std.specs.Prelude.{ℕ, Result, Ok, Err}
 
 -- "version 0 or above 5"
 abbrev pub bad_version : ℕ
@@ -134,3 +134,8 @@ rpc_bad_json_size = 43
 -- "bytes after the JSON on RPC"; in the writer "for bulk on RPC"
 abbrev pub rpc_bulk : ℕ
 rpc_bulk = 44
+
+-- the number that a call is refused with; 0 where it is not
+abbrev pub refusal_in : {A : Type 0} → Result A ℕ → ℕ
+refusal_in (Ok a) = 0
+refusal_in (Err n) = n

@@ -1,101 +1,237 @@
 // Why a call is refused: document 01's "Answer numbers" with its words, and document 02's of request A1.
+ghost use Rattle.std.specs.Prelude.{◌≡◌};
 
-// "version 0 or above 5"
-pub const BAD_VERSION: u8 = 1;
+use std::marker::Model;
 
-// "frame type above 3"
-pub const BAD_FRAME_TYPE: u8 = 2;
+// The reasons, each with its number.
+#[derive(Clone, Copy, Debug)]
+enum Reason {
+    // "version 0 or above 5"
+    BadVersion = 1,
+    // "frame type above 3"
+    BadFrameType = 2,
+    // "service not listed"
+    BadService = 3,
+    // "control info not listed"
+    BadControlInfo = 4,
+    // "flag set in version 1 or on a First Frame"
+    BadFlag = 5,
+    // "First Frame size not 8, consecutive size 0, or above the largest"
+    BadSize = 6,
+    // "pool not 65,536 bytes, settings, offer or chunk (0 or above largest) out of range, state rule broken"
+    BadSettings = 10,
+    // "out under 128 bytes (link), or too small for the bytes due"
+    TooSmall = 11,
+    // "session not open (0 never is; opening excepted)"
+    NotOpen = 12,
+    // "encryption flag set"
+    Encrypted = 13,
+    // "version not the settled one; unsettled: above min(M, 4)"
+    OtherVersion = 14,
+    // "settled at 5, data size above mtu minus 12"
+    AboveMtu = 15,
+    // "type 1 to 3 on a service not running; 00 always runs, 0F from frame version 2"
+    NotRunning = 16,
+    // "control info other than 00, 01, 04, FF; or 00, FF not on service 00 or not settled at 3 or more"
+    NotServed = 17,
+    // "total 0 or above 65,536, count 0 .. or above total; sender: likewise, if more than one chunk"; A2 dropped "above 256"
+    BadTotals = 18,
+    // "message already open"
+    AlreadyOpen = 19,
+    // "held + need above C"
+    AboveCap = 20,
+    // "sum of larger-of-held-and-G above 256"
+    NoRoom = 21,
+    // "no message open"
+    NoMessage = 22,
+    // "other message id"
+    OtherMessage = 23,
+    // "frame number wrong; message dropped"
+    BadFrameNumber = 24,
+    // "sizes wrong; message dropped"
+    BadFrameSize = 25,
+    // "sender: k past the last frame"
+    NoSuchFrame = 26,
+    // "document length not the lent length, or not 5 to 1,024"
+    BadLength = 30,
+    // "type not read"
+    BadType = 31,
+    // "key, value or nested document runs past its document; string length 0 or its last byte not 0; nested length under 5; a 0 in a type's place before its
+    // document's last byte, or the document used up without one; boolean not 0 or 1"
+    Malformed = 32,
+    // "depth 9, judged before its length"
+    TooDeep = 33,
+    // "known tag twice or of another type"
+    BadTag = 34,
+    // "payload under 12 bytes"
+    RpcTooShort = 40,
+    // "type not 0 to 2 (query: not 00, 10, 20 or FF)"
+    RpcBadType = 41,
+    // "query id not 1, 2 or FFFFFF (all hex; in the writer also a function id over 28 bits)"
+    RpcBadId = 42,
+    // "JSON size past the end"; in the writer "if the JSON size isn't the JSON's length"
+    RpcBadJsonSize = 43,
+    // "bytes after the JSON on RPC"; in the writer "for bulk on RPC"
+    RpcBulk = 44,
+}
 
-// "service not listed"
-pub const BAD_SERVICE: u8 = 3;
+// A refusal, the error of every call that gives one. In a contract it is its number. The reason lies in a struct, since an enum has no model.
+#[derive(Clone, Copy, Debug)]
+pub struct Refusal {
+    reason: Reason,
+}
 
-// "control info not listed"
-pub const BAD_CONTROL_INFO: u8 = 4;
+impl Model for Refusal {
+    ghost use Rattle.std.specs.Prelude.{ℕ};
 
-// "flag set in version 1 or on a First Frame"
-pub const BAD_FLAG: u8 = 5;
+    ghost Value = { ℕ };
 
-// "First Frame size not 8, consecutive size 0, or above the largest"
-pub const BAD_SIZE: u8 = 6;
+    ghost use Rattle.figures.specs.Reason.{number_of, reason_of, read_back};
 
-// "pool not 65,536 bytes, settings, offer or chunk (0 or above largest) out of range, state rule broken"
-pub const BAD_SETTINGS: u8 = 10;
+    ghost view = { λ r. number_of r.reason };
 
-// "out under 128 bytes (link), or too small for the bytes due"
-pub const TOO_SMALL: u8 = 11;
+    ghost inverse = { λ n. record { reason = reason_of n } };
 
-// "session not open (0 never is; opening excepted)"
-pub const NOT_OPEN: u8 = 12;
+    ghost inverse_ok = { λ r _. read_back r };
+}
 
-// "encryption flag set"
-pub const ENCRYPTED: u8 = 13;
+impl Refusal {
+    pub const BAD_VERSION: Refusal = Refusal {
+        reason: Reason::BadVersion,
+    };
 
-// "version not the settled one; unsettled: above min(M, 4)"
-pub const OTHER_VERSION: u8 = 14;
+    pub const BAD_FRAME_TYPE: Refusal = Refusal {
+        reason: Reason::BadFrameType,
+    };
 
-// "settled at 5, data size above mtu minus 12"
-pub const ABOVE_MTU: u8 = 15;
+    pub const BAD_SERVICE: Refusal = Refusal {
+        reason: Reason::BadService,
+    };
 
-// "type 1 to 3 on a service not running; 00 always runs, 0F from frame version 2"
-pub const NOT_RUNNING: u8 = 16;
+    pub const BAD_CONTROL_INFO: Refusal = Refusal {
+        reason: Reason::BadControlInfo,
+    };
 
-// "control info other than 00, 01, 04, FF; or 00, FF not on service 00 or not settled at 3 or more"
-pub const NOT_SERVED: u8 = 17;
+    pub const BAD_FLAG: Refusal = Refusal {
+        reason: Reason::BadFlag,
+    };
 
-// "total 0 or above 65,536, count 0 .. or above total; sender: likewise, if more than one chunk"; A2 dropped "above 256"
-pub const BAD_TOTALS: u8 = 18;
+    pub const BAD_SIZE: Refusal = Refusal {
+        reason: Reason::BadSize,
+    };
 
-// "message already open"
-pub const ALREADY_OPEN: u8 = 19;
+    pub const BAD_SETTINGS: Refusal = Refusal {
+        reason: Reason::BadSettings,
+    };
 
-// "held + need above C"
-pub const ABOVE_CAP: u8 = 20;
+    pub const TOO_SMALL: Refusal = Refusal {
+        reason: Reason::TooSmall,
+    };
 
-// "sum of larger-of-held-and-G above 256"
-pub const NO_ROOM: u8 = 21;
+    pub const NOT_OPEN: Refusal = Refusal {
+        reason: Reason::NotOpen,
+    };
 
-// "no message open"
-pub const NO_MESSAGE: u8 = 22;
+    pub const ENCRYPTED: Refusal = Refusal {
+        reason: Reason::Encrypted,
+    };
 
-// "other message id"
-pub const OTHER_MESSAGE: u8 = 23;
+    pub const OTHER_VERSION: Refusal = Refusal {
+        reason: Reason::OtherVersion,
+    };
 
-// "frame number wrong; message dropped"
-pub const BAD_FRAME_NUMBER: u8 = 24;
+    pub const ABOVE_MTU: Refusal = Refusal {
+        reason: Reason::AboveMtu,
+    };
 
-// "sizes wrong; message dropped"
-pub const BAD_FRAME_SIZE: u8 = 25;
+    pub const NOT_RUNNING: Refusal = Refusal {
+        reason: Reason::NotRunning,
+    };
 
-// "sender: k past the last frame"
-pub const NO_SUCH_FRAME: u8 = 26;
+    pub const NOT_SERVED: Refusal = Refusal {
+        reason: Reason::NotServed,
+    };
 
-// "document length not the lent length, or not 5 to 1,024"
-pub const BAD_LENGTH: u8 = 30;
+    pub const BAD_TOTALS: Refusal = Refusal {
+        reason: Reason::BadTotals,
+    };
 
-// "type not read"
-pub const BAD_TYPE: u8 = 31;
+    pub const ALREADY_OPEN: Refusal = Refusal {
+        reason: Reason::AlreadyOpen,
+    };
 
-// "key, value or nested document runs past its document; string length 0 or its last byte not 0; nested length under 5; a 0 in a type's place before its
-// document's last byte, or the document used up without one; boolean not 0 or 1"
-pub const MALFORMED: u8 = 32;
+    pub const ABOVE_CAP: Refusal = Refusal {
+        reason: Reason::AboveCap,
+    };
 
-// "depth 9, judged before its length"
-pub const TOO_DEEP: u8 = 33;
+    pub const NO_ROOM: Refusal = Refusal {
+        reason: Reason::NoRoom,
+    };
 
-// "known tag twice or of another type"
-pub const BAD_TAG: u8 = 34;
+    pub const NO_MESSAGE: Refusal = Refusal {
+        reason: Reason::NoMessage,
+    };
 
-// "payload under 12 bytes"
-pub const RPC_TOO_SHORT: u8 = 40;
+    pub const OTHER_MESSAGE: Refusal = Refusal {
+        reason: Reason::OtherMessage,
+    };
 
-// "type not 0 to 2 (query: not 00, 10, 20 or FF)"
-pub const RPC_BAD_TYPE: u8 = 41;
+    pub const BAD_FRAME_NUMBER: Refusal = Refusal {
+        reason: Reason::BadFrameNumber,
+    };
 
-// "query id not 1, 2 or FFFFFF (all hex; in the writer also a function id over 28 bits)"
-pub const RPC_BAD_ID: u8 = 42;
+    pub const BAD_FRAME_SIZE: Refusal = Refusal {
+        reason: Reason::BadFrameSize,
+    };
 
-// "JSON size past the end"; in the writer "if the JSON size isn't the JSON's length"
-pub const RPC_BAD_JSON_SIZE: u8 = 43;
+    pub const NO_SUCH_FRAME: Refusal = Refusal {
+        reason: Reason::NoSuchFrame,
+    };
 
-// "bytes after the JSON on RPC"; in the writer "for bulk on RPC"
-pub const RPC_BULK: u8 = 44;
+    pub const BAD_LENGTH: Refusal = Refusal {
+        reason: Reason::BadLength,
+    };
+
+    pub const BAD_TYPE: Refusal = Refusal {
+        reason: Reason::BadType,
+    };
+
+    pub const MALFORMED: Refusal = Refusal {
+        reason: Reason::Malformed,
+    };
+
+    pub const TOO_DEEP: Refusal = Refusal {
+        reason: Reason::TooDeep,
+    };
+
+    pub const BAD_TAG: Refusal = Refusal {
+        reason: Reason::BadTag,
+    };
+
+    pub const RPC_TOO_SHORT: Refusal = Refusal {
+        reason: Reason::RpcTooShort,
+    };
+
+    pub const RPC_BAD_TYPE: Refusal = Refusal {
+        reason: Reason::RpcBadType,
+    };
+
+    pub const RPC_BAD_ID: Refusal = Refusal {
+        reason: Reason::RpcBadId,
+    };
+
+    pub const RPC_BAD_JSON_SIZE: Refusal = Refusal {
+        reason: Reason::RpcBadJsonSize,
+    };
+
+    pub const RPC_BULK: Refusal = Refusal {
+        reason: Reason::RpcBulk,
+    };
+
+    // Document 01's number, as C and the programs tell it.
+    pub fn number(self) -> u8
+        ensures { result ≡ self }
+    {
+        self.reason as u8
+    }
+}

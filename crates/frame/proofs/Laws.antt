@@ -1,6 +1,6 @@
 -- What a header without fault says, and the sizes of headers: the laws of specs/Rules that all layers above cite.
 -- Assumes nothing.
-use Prim.Native.Nat.{ℕ, ◌+◌, ◌≤◌}
+use Prim.Native.Nat.{ℕ, ◌+◌, ◌*◌, ◌≤◌}
 use mathlib.Core.Path.{◌≡◌, refl, ap, ◌∙◌, sym}
 use mathlib.Core.Bool.{Bool, true, false, ◌&&◌, ◌||◌, not}
 use mathlib.Core.List.{List, []}
@@ -8,6 +8,8 @@ use native.Mathlib.Omega.{arith}
 use lib.Dec.{eqb, leb}
 use lib.ListN.{length, length-append}
 use borrow.Author.Tests.{leb-true, eqb-true, eqb-false, eq-eqb, ne_eqb, le-leb}
+use Rattle.std.specs.Prelude.{Result, Ok, Err}
+use mir.Val.{bool_byte}
 use Rattle.numbers.specs.Bytes.{pick, unless, laid}
 use Rattle.numbers.specs.Numbers.{bytes_be}
 use Rattle.numbers.proofs.Laws.{length_be}
@@ -15,8 +17,6 @@ use Rattle.numbers.proofs.Choices.{and_both, either, unless_elim}
 use Rattle.frame.specs.declared.Header.{Header}
 use Rattle.frame.specs.Rules.{known_version, listed_service, info_fits, flag_fits, largest, size_fits, fault_of, header_size}
 use Rattle.frame.specs.Write.{message_bytes, header_bytes, frame_bytes, Wrote, wrote, put_of, write_header_of, write_of}
-use Rattle.frame.specs.declared.Written.{Written}
-use Rattle.frame.specs.declared.Written.TheVariants.{Bytes, Refused}
 
 not_yes : (b : Bool) → not b ≡ true → b ≡ false
 not_yes true e = sym e
@@ -92,34 +92,10 @@ header_length h =
 pub frame_length : (h : Header) (p : List ℕ) → length (frame_bytes h p) ≡ header_size h.version + length p
 frame_length h p = length-append (header_bytes h) p ∙ ap (λ (n : ℕ). n + length p) (header_length h)
 
--- the size rule of a First Frame, and of the other types
-absorb : (b c : Bool) → (b ≡ true → c ≡ true) → b ≡ b && c
-absorb true c h = sym (h refl)
-absorb false c h = refl
-
-pub size_first : (v kind size : ℕ) → kind ≡ 2 → eqb size 8 ≡ size_fits v kind size
-unfolding size_fits
-size_first v kind size e = rw e (absorb (eqb size 8) (leb size (largest v)) (λ t. let z : size ≡ 8 = eqb-true size 8 t in le-leb size (largest v) (omega (arith, largest_range v))))
-
-and_true_or_false : (b : Bool) → b ≡ (b || false) && true
-and_true_or_false true = refl
-and_true_or_false false = refl
-
-pub size_empty : (v kind size : ℕ) → (kind ≡ 2 → ⊥) → size ≡ 0 → not (eqb kind 3) ≡ size_fits v kind size
-unfolding size_fits
-size_empty v kind size e f = rw (ne_eqb kind 2 e, f, le-leb 0 (largest v) (omega arith)) (and_true_or_false (not (eqb kind 3)))
-
-pub size_filled : (v kind size : ℕ) → (kind ≡ 2 → ⊥) → (size ≡ 0 → ⊥) → leb size (largest v) ≡ size_fits v kind size
-unfolding size_fits
-size_filled v kind size e f = rw (ne_eqb kind 2 e, ne_eqb size 0 f) (or_true (not (eqb kind 3)) (leb size (largest v)))
-  where
-    or_true : (b c : Bool) → c ≡ (b || true) && c
-    or_true true c = refl
-    or_true false c = refl
-
-pub or_false : (b : Bool) → b ≡ b || false
-or_false true = refl
-or_false false = refl
+-- the flag's bit, as code makes it of a number, and what it is at most
+pub flag_is : (b : Bool) → bool_byte b * 8 ≡ pick b 8 0
+flag_is true = refl
+flag_is false = refl
 
 pub flag_most : (b : Bool) → pick b 8 0 ≤ 8
 flag_most b = either (λ (n : ℕ). n ≤ 8) b 8 0 (λ e. omega arith) (λ e. omega arith)
@@ -163,27 +139,27 @@ pub frame_most : (h : Header) → fault_of h ≡ 0 → header_size h.version + h
 frame_most h e = omega (arith, header_range h.version, largest_range h.version, size_most h.version h.kind h.size (fault_none h e).size)
 
 -- how large a writer's answer is
-abbrev pub AnswerBound : Written → Type 0
-AnswerBound (Bytes n) = n ≤ 131084
-AnswerBound (Refused n) = n ≤ 11
+abbrev pub AnswerBound : Result ℕ ℕ → Type 0
+AnswerBound (Ok n) = n ≤ 131084
+AnswerBound (Err n) = n ≤ 11
 
 put_bound : (bytes out : List ℕ) → length bytes ≤ 131084 → AnswerBound (put_of bytes out).answer
 put_bound bytes out l =
-    unless_elim (λ (w : Wrote). AnswerBound w.answer) (leb (length bytes) (length out)) (wrote (Refused 11) out) (wrote (Bytes (length bytes)) (laid bytes out))
+    unless_elim (λ (w : Wrote). AnswerBound w.answer) (leb (length bytes) (length out)) (wrote (Err 11) out) (wrote (Ok (length bytes)) (laid bytes out))
     (λ t. omega arith) (λ t. l)
 
 pub header_bound : (h : Header) (out : List ℕ) → AnswerBound (write_header_of h out).answer
 unfolding write_header_of
 header_bound h out =
-    unless_elim (λ (w : Wrote). AnswerBound w.answer) (eqb (fault_of h) 0) (wrote (Refused (fault_of h)) out) (put_of (header_bytes h) out)
+    unless_elim (λ (w : Wrote). AnswerBound w.answer) (eqb (fault_of h) 0) (wrote (Err (fault_of h)) out) (put_of (header_bytes h) out)
     (λ t. omega (arith, fault_most h))
     (λ t. put_bound (header_bytes h) out (omega (arith, header_length h, header_range h.version)))
 
 pub write_bound : (h : Header) (p out : List ℕ) → AnswerBound (write_of h p out).answer
 unfolding write_of
 write_bound h p out =
-    unless_elim (λ (w : Wrote). AnswerBound w.answer) (eqb (fault_of h) 0) (wrote (Refused (fault_of h)) out) _ (λ t. omega (arith, fault_most h)) λ t.
-    unless_elim (λ (w : Wrote). AnswerBound w.answer) (eqb h.size (length p)) (wrote (Refused 6) out) (put_of (frame_bytes h p) out)
+    unless_elim (λ (w : Wrote). AnswerBound w.answer) (eqb (fault_of h) 0) (wrote (Err (fault_of h)) out) _ (λ t. omega (arith, fault_most h)) λ t.
+    unless_elim (λ (w : Wrote). AnswerBound w.answer) (eqb h.size (length p)) (wrote (Err 6) out) (put_of (frame_bytes h p) out)
     (λ u. omega arith)
     (λ u.
     let same : h.size ≡ length p = eqb-true h.size (length p) u in

@@ -9,6 +9,7 @@ use lib.Dec.{eqb, leb}
 use lib.ListN.{length, take, drop, length-append, length-take, length-drop}
 use lib.Seq.{take_at, drop_at, take-add, drop-drop, length-take-le}
 use borrow.Author.Tests.{leb-true, leb-false, eqb-true, le-leb, lt-leb}
+use Rattle.std.specs.Prelude.{Result, Ok, Err}
 use Rattle.numbers.specs.Bytes.{part, pick, AreBytes, laid}
 use Rattle.numbers.specs.Numbers.{value_be, bytes_be}
 use Rattle.numbers.proofs.Laws.{length_be, read_written_be, written_read_be, bytes_take, bytes_drop}
@@ -17,7 +18,6 @@ use Rattle.frame.specs.declared.Header.{Header}
 use Rattle.frame.specs.declared.MessageId.{MessageId}
 use Rattle.frame.specs.declared.Extent.{Extent}
 use Rattle.frame.specs.declared.Reading.TheVariants.{Frame}
-use Rattle.frame.specs.declared.Written.TheVariants.{Refused, Bytes as Done}
 use Rattle.frame.specs.Rules.{fault_of, header_size}
 use Rattle.frame.specs.Read.{front_of, message_of, with_message, frame_size, read_of}
 use Rattle.frame.specs.Write.{message_bytes, header_bytes, frame_bytes, Wrote, wrote, put_of, write_header_of, write_of}
@@ -166,19 +166,19 @@ payload_length s h e p =
 -- ---- from a writer's own answer
 
 -- a refusal is no such answer
-pub not_done : (k : ℕ) (out left : List ℕ) (n : ℕ) → wrote (Refused k) out ≡ wrote (Done n) left → ⊥
+pub not_done : (k : ℕ) (out left : List ℕ) (n : ℕ) → wrote (Err k) out ≡ wrote (Ok n) left → ⊥
 not_done k out left n d =
-    let a : Refused k ≡ Done n = ap (λ (w : Wrote). w.answer) d in
+    let a : ◌≡◌ {A = Result ℕ ℕ} (Err k) (Ok n) = ap (λ (w : Wrote). w.answer) d in
     let z : ◌≡◌ {A = ℕ} 0 1 = cc in
     omega arith
 
 -- bytes that a writer put: it answers how many, and they stand at the front
-pub put_told : (bytes out left : List ℕ) (n : ℕ) → put_of bytes out ≡ wrote (Done n) left → take n left ≡ bytes
+pub put_told : (bytes out left : List ℕ) (n : ℕ) → put_of bytes out ≡ wrote (Ok n) left → take n left ≡ bytes
 put_told bytes out left n e =
-    unless_elim (λ (w : Wrote). w ≡ wrote (Done n) left → take n left ≡ bytes) (leb (length bytes) (length out)) (wrote (Refused 11) out)
-    (wrote (Done (length bytes)) (laid bytes out)) (λ t d. absurd (not_done 11 out left n d))
+    unless_elim (λ (w : Wrote). w ≡ wrote (Ok n) left → take n left ≡ bytes) (leb (length bytes) (length out)) (wrote (Err 11) out)
+    (wrote (Ok (length bytes)) (laid bytes out)) (λ t d. absurd (not_done 11 out left n d))
     (λ t d.
-    let a : Done (length bytes) ≡ Done n = ap (λ (w : Wrote). w.answer) d in
+    let a : ◌≡◌ {A = Result ℕ ℕ} (Ok (length bytes)) (Ok n) = ap (λ (w : Wrote). w.answer) d in
     let k : length bytes ≡ n = cc in
     let l : laid bytes out ≡ left = ap (λ (w : Wrote). w.out) d in
     rw (← k, ← l) (take_at bytes (drop (length bytes) out) (length bytes) refl)) e
@@ -186,16 +186,16 @@ put_told bytes out left n e =
 pub frame_read_back : FrameReadBack
 unfolding write_of
 frame_read_back h p out left n small e =
-    unless_elim (λ (w : Wrote). w ≡ wrote (Done n) left → ReadsAs (take n left) (as_read h) p) (eqb (fault_of h) 0) (wrote (Refused (fault_of h)) out) _
+    unless_elim (λ (w : Wrote). w ≡ wrote (Ok n) left → ReadsAs (take n left) (as_read h) p) (eqb (fault_of h) 0) (wrote (Err (fault_of h)) out) _
     (λ t d. absurd (not_done (fault_of h) out left n d)) (λ t.
-    unless_elim (λ (w : Wrote). w ≡ wrote (Done n) left → ReadsAs (take n left) (as_read h) p) (eqb h.size (length p)) (wrote (Refused 6) out) (put_of (frame_bytes h p) out)
+    unless_elim (λ (w : Wrote). w ≡ wrote (Ok n) left → ReadsAs (take n left) (as_read h) p) (eqb h.size (length p)) (wrote (Err 6) out) (put_of (frame_bytes h p) out)
     (λ u d. absurd (not_done 6 out left n d))
     (λ u d. rw (put_told (frame_bytes h p) out left n d) (read_back h p (eqb-true (fault_of h) 0 t) (eqb-true h.size (length p) u) small))) e
 
 pub header_read_back : HeaderReadBack
 unfolding write_header_of
 header_read_back h p out left n small e size =
-    unless_elim (λ (w : Wrote). w ≡ wrote (Done n) left → ReadsAs (take n left ++ p) (as_read h) p) (eqb (fault_of h) 0) (wrote (Refused (fault_of h)) out) (put_of (header_bytes h) out)
+    unless_elim (λ (w : Wrote). w ≡ wrote (Ok n) left → ReadsAs (take n left ++ p) (as_read h) p) (eqb (fault_of h) 0) (wrote (Err (fault_of h)) out) (put_of (header_bytes h) out)
     (λ t d. absurd (not_done (fault_of h) out left n d))
     (λ t d. rw (put_told (header_bytes h) out left n d) (read_back h p (eqb-true (fault_of h) 0 t) (sym size) small)) e
 

@@ -1,12 +1,11 @@
 -- What is written is read back, and what was read is written again: a statement for each pair of writer and reader. The user's second demand: "What you
 -- write is read back the same, save version 1's missing message id." Proved in proofs/ThereAndBack.
 -- Assumes nothing.
-use Rattle.std.specs.Prelude.{ℕ, ◌-◌, ◌^◌, ◌≤◌, ◌<◌, ◌≡◌, List, ◌++◌, eqb, length, take}
+use Rattle.std.specs.Prelude.{ℕ, ◌-◌, ◌^◌, ◌≤◌, ◌<◌, ◌≡◌, List, ◌++◌, Ok, eqb, length, take}
 use Rattle.numbers.specs.Bytes.{part, pick, AreBytes, laid}
 use Rattle.frame.specs.declared.Header.{Header}
 use Rattle.frame.specs.declared.Extent.{Extent}
 use Rattle.frame.specs.declared.Reading.TheVariants.{Frame}
-use Rattle.frame.specs.declared.Written.TheVariants.{Bytes}
 use Rattle.frame.specs.Read.{with_message, extent_of, read_of}
 use Rattle.frame.specs.Write.{wrote, write_header_of, write_of}
 
@@ -27,17 +26,17 @@ pub record ReadsAs (bytes : List ℕ) (h : Header) (payload : List ℕ) : Type 0
 -- `frame::write`: the bytes that it left at the front of out. A message id has 32 bits
 abbrev pub FrameReadBack : Type 0
 FrameReadBack =
-    (h : Header) (payload out left : List ℕ) (n : ℕ) → h.message.0 < 2 ^ 32 → write_of h payload out ≡ wrote (Bytes n) left
+    (h : Header) (payload out left : List ℕ) (n : ℕ) → h.message.0 < 2 ^ 32 → write_of h payload out ≡ wrote (Ok n) left
     → ReadsAs (take n left) (as_read h) payload
 
 -- `frame::write_header`: the bytes that it left, followed by a payload of the data size
 abbrev pub HeaderReadBack : Type 0
 HeaderReadBack =
-    (h : Header) (payload out left : List ℕ) (n : ℕ) → h.message.0 < 2 ^ 32 → write_header_of h out ≡ wrote (Bytes n) left → length payload ≡ h.size
+    (h : Header) (payload out left : List ℕ) (n : ℕ) → h.message.0 < 2 ^ 32 → write_header_of h out ≡ wrote (Ok n) left → length payload ≡ h.size
     → ReadsAs (take n left ++ payload) (as_read h) payload
 
 -- the other way round: a frame that `frame::read` found, written where there is room, is the bytes that it consumed
 abbrev pub WrittenAgain : Type 0
 WrittenAgain =
     (s : List ℕ) (h : Header) (e : Extent) (out : List ℕ) → AreBytes s → read_of s ≡ Frame h e → e.consumed ≤ length out
-    → write_of h (payload_part s e) out ≡ wrote (Bytes e.consumed) (laid (take e.consumed s) out)
+    → write_of h (payload_part s e) out ≡ wrote (Ok e.consumed) (laid (take e.consumed s) out)

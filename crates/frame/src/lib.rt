@@ -2,32 +2,35 @@
 // It knows no session and keeps no state: bytes and values in, bytes and values out.
 #![tactic(auto)]
 
-pub mod refusal;
-
-ghost use Rattle.std.specs.Prelude.{◌≡◌, Bool, ◌+◌, ◌-◌, ◌≤◌, min, length};
-ghost use Rattle.numbers.specs.Bytes.{part, pick, laid};
+ghost use Rattle.std.specs.Prelude.{◌≡◌, ◌-◌, ◌≤◌, length, IfErr};
+ghost use Rattle.figures.specs.Refusal.{refusal_in};
+ghost use Rattle.numbers.specs.Bytes.{part, laid};
 ghost use Rattle.frame.specs.Rules.{known_version, listed_service, info_fits, flag_fits, largest, size_fits, fault_of, header_size};
 ghost use Rattle.frame.specs.Read.{front_of, message_of, read_of};
 ghost use Rattle.frame.specs.Write.{header_bytes, wrote, write_header_of, write_of};
 ghost use Rattle.frame.specs.Message.{frame_number, totals_fit};
 
-// Three kinds of number that are never exchanged by mistake.
-#[derive(Clone, Copy)]
+use figures::refusal::Refusal;
+use figures::{frame_type, service};
+
+// Three kinds of number that are never exchanged by mistake. A service is a number too: any byte can stand in a header, and those not listed are refused.
+#[derive(Clone, Copy, Default, PartialEq, Eq)]
 pub struct SessionId(pub u8);
 
-#[derive(Clone, Copy)]
+#[derive(Clone, Copy, PartialEq, Eq)]
 pub struct ServiceType(pub u8);
 
-#[derive(Clone, Copy)]
+#[derive(Clone, Copy, Default, PartialEq, Eq)]
 pub struct MessageId(pub u32);
 
 // A frame's header. A version 1 header has no message id; it reads as 0.
-#[derive(Clone, Copy)]
+#[derive(Clone, Copy, PartialEq, Eq)]
 pub struct Header {
+    // a number, and so is the frame type: the writers promise refusals 1 and 2 for values that an enum would not have (fault_of)
     pub version: u8,
     // the encryption flag
     pub flag: bool,
-    // the frame type: 0 control, 1 single, 2 first, 3 consecutive
+    // the frame type (figures::frame_type)
     pub kind: u8,
     pub service: ServiceType,
     // the frame info: a control frame's command, a consecutive frame's number
@@ -39,125 +42,98 @@ pub struct Header {
 }
 
 // Where a frame lies in the bytes that were read: its payload part, and how many bytes it takes in all.
-#[derive(Clone, Copy)]
+#[derive(Clone, Copy, PartialEq, Eq)]
 pub struct Extent {
     pub start: usize,
     pub end: usize,
     pub consumed: usize,
 }
 
-// What the front of some bytes is: a frame, a refusal 1 to 6, or too short, with the bytes needed in all.
+// What the front of some bytes is: a frame, a refusal 1 to 6, or too short, with the bytes needed in all. Three answers that callers tell apart,
+// so no Option and no Result: who is short reads on, who is refused does not.
 #[derive(Clone, Copy)]
 pub enum Reading {
     Frame(Header, Extent),
-    Refused(u8),
+    Refused(Refusal),
     Short(usize),
 }
 
-// What a writer did: so many bytes to the front of the buffer, or a refusal and nothing.
-#[derive(Clone, Copy)]
-pub enum Written {
-    Bytes(usize),
-    Refused(u8),
-}
-
+#[tactic(auto, unfolding(crate::specs::Rules::known_version))]
 pub fn known_version(version: u8) -> bool
     ensures { result ≡ known_version version }
 {
-    if version == 0 {
-        return false;
-    }
-    version <= 5
+    matches!(version, 1..=5)
 }
 
+#[tactic(auto, unfolding(crate::specs::Rules::listed_service))]
 pub fn listed_service(service: ServiceType) -> bool
     ensures { result ≡ listed_service service }
 {
-    let number = service.0;
-    if number == 0 {
-        return true;
-    }
-    if number == 7 {
-        return true;
-    }
-    if number == 10 {
-        return true;
-    }
-    if number == 11 {
-        return true;
-    }
-    number == 15
+    service::ALL.contains(&service.0)
 }
 
+#[tactic(auto, unfolding(crate::specs::Rules::info_fits))]
 fn info_fits(kind: u8, info: u8) -> bool
     ensures { result ≡ info_fits kind info }
 {
-    if kind != 0 {
-        return true;
-    }
-    if info <= 9 {
-        return true;
-    }
-    253 <= info
+    kind != frame_type::CONTROL || matches!(info, 0..=9 | 253..=255)
 }
 
+#[tactic(auto, unfolding(crate::specs::Rules::flag_fits))]
 fn flag_fits(version: u8, kind: u8, flag: bool) -> bool
     ensures { result ≡ flag_fits version kind flag }
 {
-    if flag {
-        if version == 1 {
-            return false;
-        }
-        return kind != 2;
-    }
-    true
+    !(flag && (version == 1 || kind == frame_type::FIRST))
 }
 
 // The largest data size of a version.
+#[tactic(auto, unfolding(crate::specs::Rules::largest))]
 pub fn largest_size(version: u8) -> u32
     ensures { result ≡ largest version }
 {
     if version <= 2 { 1488 } else { 131072 }
 }
 
+#[tactic(auto, unfolding(crate::specs::Rules::size_fits, crate::specs::Rules::largest))]
 fn size_fits(version: u8, kind: u8, size: u32) -> bool
     ensures { result ≡ size_fits version kind size }
 {
-    if kind == 2 {
-        return size == 8;
+    match kind {
+        frame_type::FIRST => size == 8,
+        frame_type::CONSECUTIVE => 0 < size && size <= largest_size(version),
+        _ => size <= largest_size(version),
     }
-    if size == 0 {
-        return kind != 3;
-    }
-    size <= largest_size(version)
 }
 
-// The lowest of the refusals 1 to 6 that a header earns, or 0.
-pub fn fault(header: Header) -> u8
-    ensures { result ≡ fault_of header }
+// The lowest of the refusals 1 to 6 that a header earns.
+#[tactic(auto, unfolding(crate::specs::Rules::fault_of))]
+pub fn fault(header: Header) -> Result<(), Refusal>
+    ensures lowest { refusal_in result ≡ fault_of header }
+    ensures numbered { IfErr result (λ number. 1 ≤ number) }
 {
     if !known_version(header.version) {
-        return refusal::VERSION;
+        return Err(Refusal::BAD_VERSION);
     }
-    if 3 < header.kind {
-        return refusal::FRAME_TYPE;
+    if frame_type::CONSECUTIVE < header.kind {
+        return Err(Refusal::BAD_FRAME_TYPE);
     }
     if !listed_service(header.service) {
-        return refusal::SERVICE;
+        return Err(Refusal::BAD_SERVICE);
     }
     if !info_fits(header.kind, header.info) {
-        return refusal::CONTROL_INFO;
+        return Err(Refusal::BAD_CONTROL_INFO);
     }
     if !flag_fits(header.version, header.kind, header.flag) {
-        return refusal::FLAG;
+        return Err(Refusal::BAD_FLAG);
     }
     if !size_fits(header.version, header.kind, header.size) {
-        return refusal::SIZE;
+        return Err(Refusal::BAD_SIZE);
     }
-    0
+    Ok(())
 }
 
 // 8 bytes in version 1, which has no message id, else 12.
+#[tactic(auto, unfolding(crate::specs::Rules::header_size))]
 pub fn header_size(version: u8) -> usize
     ensures { result ≡ header_size version }
 {
@@ -165,6 +141,7 @@ pub fn header_size(version: u8) -> usize
 }
 
 // The header as its first 8 bytes tell it, with message id 0.
+#[tactic(auto, unfolding(crate::specs::Read::front_of))]
 fn front(bytes: &[u8]) -> Header
     requires { 8 ≤ length bytes.now }
     ensures { result ≡ front_of bytes.now }
@@ -183,6 +160,7 @@ fn front(bytes: &[u8]) -> Header
 }
 
 // The message id of a header that is there whole: its four bytes are lent alone, so that they are read with no test of the length.
+#[tactic(auto, unfolding(crate::specs::Read::message_of, crate::specs::Rules::header_size))]
 fn message_id(bytes: &[u8], version: u8) -> MessageId
     requires { header_size version ≤ length bytes.now }
     ensures { result ≡ message_of bytes.now version }
@@ -194,6 +172,7 @@ fn message_id(bytes: &[u8], version: u8) -> MessageId
 }
 
 // What stands at the front of `bytes`. What follows the frame is not looked at.
+#[tactic(auto, unfolding(crate::specs::Read::read_of, crate::specs::Rules::header_size))]
 pub fn read(bytes: &[u8]) -> Reading
     ensures { result ≡ read_of bytes.now }
 {
@@ -201,9 +180,8 @@ pub fn read(bytes: &[u8]) -> Reading
         return Reading::Short(8);
     }
     let mut header = front(bytes);
-    let number = fault(header);
-    if number != 0 {
-        return Reading::Refused(number);
+    if let Err(refusal) = fault(header) {
+        return Reading::Refused(refusal);
     }
     let start = header_size(header.version);
     let end = start + header.size as usize;
@@ -225,15 +203,9 @@ pub fn read(bytes: &[u8]) -> Reading
 pub fn payload(bytes: &[u8], extent: Extent) -> &[u8]
     ensures { result.now ≡ part bytes.now extent.start (extent.end - extent.start) }
 {
-    let end = numbers::least(extent.end, bytes.len());
-    let start = numbers::least(extent.start, end);
+    let end = extent.end.min(bytes.len());
+    let start = extent.start.min(end);
     &bytes[start..end]
-}
-
-fn flag_bit(flag: bool) -> u8
-    ensures { result ≡ pick flag 8 0 }
-{
-    if flag { 8 } else { 0 }
 }
 
 // The header's bytes to the front of out. The message id's four are lent alone, so that they are written with no test of the length.
@@ -241,7 +213,7 @@ fn put_header(header: Header, out: &mut [u8])
     requires { (fault_of header ≡ 0) × (header_size header.version ≤ length out.old) }
     ensures { out.new ≡ laid (header_bytes header) out.old }
 {
-    out[0] = header.version * 16 + flag_bit(header.flag) + header.kind;
+    out[0] = header.version * 16 + u8::from(header.flag) * 8 + header.kind;
     out[1] = header.service.0;
     out[2] = header.info;
     out[3] = header.session.0;
@@ -253,67 +225,53 @@ fn put_header(header: Header, out: &mut [u8])
 }
 
 // A header alone, to the front of out.
-pub fn write_header(header: Header, out: &mut [u8]) -> Written
+#[tactic(auto, using(crate::proofs::Laws::header_length), unfolding(crate::specs::Write::write_header_of, crate::specs::Rules::header_size))]
+pub fn write_header(header: Header, out: &mut [u8]) -> Result<usize, Refusal>
     ensures { wrote result out.new ≡ write_header_of header out.old }
 {
-    let refused = fault(header);
-    if refused != 0 {
-        return Written::Refused(refused);
-    }
+    fault(header)?;
     let size = header_size(header.version);
     if out.len() < size {
-        return Written::Refused(refusal::OUT_TOO_SMALL);
+        return Err(Refusal::TOO_SMALL);
     }
     put_header(header, out);
-    Written::Bytes(size)
+    Ok(size)
 }
 
 // A frame, header and payload, to the front of out.
-pub fn write(header: Header, payload: &[u8], out: &mut [u8]) -> Written
+#[tactic(auto, using(crate::proofs::Laws::frame_length), unfolding(crate::specs::Write::write_of, crate::specs::Rules::header_size))]
+pub fn write(header: Header, payload: &[u8], out: &mut [u8]) -> Result<usize, Refusal>
     ensures { wrote result out.new ≡ write_of header payload.now out.old }
 {
-    let refused = fault(header);
-    if refused != 0 {
-        return Written::Refused(refused);
-    }
+    fault(header)?;
     if header.size as usize != payload.len() {
-        return Written::Refused(refusal::SIZE);
+        return Err(Refusal::BAD_SIZE);
     }
     let start = header_size(header.version);
     let end = start + payload.len();
     if out.len() < end {
-        return Written::Refused(refusal::OUT_TOO_SMALL);
+        return Err(Refusal::TOO_SMALL);
     }
     put_header(header, out);
     numbers::copy(payload, &mut out[start..end]);
-    Written::Bytes(end)
+    Ok(end)
 }
 
 // The frame number of the consecutive frame at a place, from 1 to count: after 255 comes 1 again.
+#[tactic(auto, unfolding(crate::specs::Message::frame_number))]
 pub fn frame_number(place: usize, count: usize) -> usize
     ensures { result ≡ frame_number place count }
 {
     if place == count {
         return 0;
     }
-    if place == 0 {
-        return 1;
-    }
-    (place - 1) % 255 + 1
+    place.saturating_sub(1) % 255 + 1
 }
 
 // Whether a First Frame may announce so many bytes in so many frames.
+#[tactic(auto, unfolding(crate::specs::Message::totals_fit))]
 pub fn totals_fit(total: usize, count: usize) -> bool
     ensures { result ≡ totals_fit total count }
 {
-    if total == 0 {
-        return false;
-    }
-    if 65536 < total {
-        return false;
-    }
-    if count == 0 {
-        return false;
-    }
-    count <= total
+    (1..=65536).contains(&total) && (1..=total).contains(&count)
 }

@@ -1,6 +1,7 @@
 -- What the inner functions' proofs share: a reply that is written has room and no fault.
 -- Assumes nothing.
-use Prim.Native.Nat.{ℕ, ◌+◌, ◌-◌, ◌≤◌, ◌<◌, max, min}
+use Rattle.std.specs.Prelude.{Option, Some, None, Result, Ok, Err}
+use Prim.Native.Nat.{ℕ, ◌+◌, ◌-◌, ◌≤◌, ◌<◌, max}
 use mathlib.Core.Path.{◌≡◌, refl, ap, ◌∙◌, sym, subst}
 use mathlib.Core.Bool.{Bool, true, false, ◌&&◌, ◌||◌, not}
 use lib.Dec.{eqb, leb}
@@ -18,8 +19,6 @@ use Rattle.frame.specs.declared.ServiceType.{ServiceType}
 use Rattle.frame.specs.declared.SessionId.{SessionId}
 use Rattle.frame.specs.declared.MessageId.{MessageId}
 use Rattle.frame.specs.declared.Header.{Header}
-use Rattle.frame.specs.declared.Written.{Written}
-use Rattle.frame.specs.declared.Written.TheVariants as written
 use Rattle.frame.specs.Rules.{listed_service, info_fits}
 use Rattle.frame.specs.Write.{frame_bytes, Wrote, wrote, put_of, write_of}
 use Rattle.frame.specs.Message.{totals_fit}
@@ -29,18 +28,16 @@ use Rattle.frame.specs.Read.{read_of}
 use Rattle.frame.proofs.Answers.{frame_sound}
 use Rattle.frame.proofs.Laws.{fault_none, write_puts, frame_length, header_range}
 use Rattle.frame.proofs.Buffers.{pasted, payload_put}
-use Rattle.payload.specs.declared.append.Written as Payload
-use Rattle.payload.specs.declared.append.Written.TheVariants as payload
 use Rattle.payload.specs.Append as payloads
 use Rattle.payload.specs.declared.Tags.{Tags}
-use Rattle.payload.specs.declared.Payload.TheVariants.{Accepted}
+use Rattle.payload.specs.declared.Span.{Span}
 use Rattle.payload.specs.Walk.{payload_of}
 use Rattle.payload.proofs.TopLevel.{AcceptedHolds, VersionInside, version_inside}
 use Rattle.payload.specs.declared.reply.Parameter.{Parameter}
 use Rattle.payload.specs.declared.reply.Parameter.TheVariants as parameter
 use Rattle.payload.specs.Tags.{protocol_version, hash_id}
 use Rattle.payload.specs.declared.version.Version.{Version}
-use Rattle.payload.specs.Version.{lesser_of, saying_of}
+use Rattle.payload.specs.Version.{saying_of}
 use Rattle.payload.specs.Reply.{service_ack_payload, nak_payload, name_of}
 use Rattle.payload.proofs.Replies.{length_nak}
 use Rattle.payload.proofs.Appends.{in_range_put}
@@ -51,35 +48,40 @@ use Rattle.session.specs.declared.Act.{Act}
 use Rattle.session.specs.declared.Act.TheVariants.{Refuse, Drop, Accept, Beat, Start, NoStart, Stop, Close, NoEnd, Claim, Append, Deliver, Single}
 use Rattle.session.specs.Rules.{barred_by}
 use Rattle.session.specs.Rows.{no_row, opened_row, message_at}
-use Rattle.session.specs.Decide.{place_of, need_of, held_of, first_of, due_number, sized, next_for, single_of, startable, starting_of, endable, hash_of, ending_of, control_of, content_of}
+use Rattle.session.specs.Decide.{is_hash, place_of, need_of, held_of, first_of, due_number, sized, next_for, single_of, startable, starting_of, endable, hash_of, ending_of, control_of, content_of}
 use Rattle.link.specs.declared.Link.{Link}
 use Rattle.link.specs.declared.Grant.{Grant}
 use Rattle.link.specs.declared.Answer.TheVariants as answer
 use Rattle.link.specs.State.{index_of, new_id, guard_of, with_row}
-use Rattle.link.specs.Call.{After, after, wish_of, opens, old_version, opened, opening_by, said_of, decision_of, applied, frame_of, call_of}
+use Rattle.link.specs.Call.{After, after, Wish, old, new, bad, wish_of, opens, admits, not_opened, opened, opening_by, said_of, decision_of, applied, frame_of, call_of}
 use Rattle.link.proofs.Guards.{guard_version}
+use Rattle.link.proofs.Wishes.{wish_bounded}
 use Rattle.link.proofs.Table.{index_row}
-use Rattle.link.specs.Reply.{reply_header, reply_bytes, rpc, first_message_id, old_ack, new_ack, granted_payload}
+use Rattle.link.specs.Reply.{reply_header, reply_bytes, granted_payload}
 use Rattle.link.proofs.Replies.{reply_sound}
-use Rattle.headunit.specs.Unit.{Sent, sent, sent_of, count_of, payload_count_of, replied_with, Serves}
+use Rattle.headunit.specs.Unit.{Sent, sent, sent_of, rejection, wished, version_for, ack_for, replied_with, Serves}
 use Rattle.headunit.specs.Steps.{Roomy}
 
--- the writer's answer as a count and a buffer
-abbrev pub sent_by : Wrote → Sent
-sent_by w = sent (count_of w.answer) w.out
+-- what a writer leaves of bytes that fit
+pub put_done : {r : Result ℕ ℕ} {q : List ℕ} (bytes o : List ℕ) → length bytes ≤ length o → wrote r q ≡ put_of bytes o → (r ≡ Ok (length bytes)) × (q ≡ laid bytes o)
+put_done {r = r} {q = q} bytes o h e =
+    let g : wrote r q ≡ wrote (Ok (length bytes)) (laid bytes o)
+    = e ∙ ap (λ (b : Bool). unless b (wrote (Err 11) o) (wrote (Ok (length bytes)) (laid bytes o))) (le-leb (length bytes) (length o) h) in
+    (ap (λ (x : Wrote). x.answer) g, ap (λ (x : Wrote). x.out) g)
 
--- bytes that fit are put
-pub put_sent : (bytes o : List ℕ) → length bytes ≤ length o → sent_by (put_of bytes o) ≡ sent_of bytes o
-put_sent bytes o h = ap (λ (b : Bool). sent_by (unless b (wrote (written.Refused 11) o) (wrote (written.Bytes (length bytes)) (laid bytes o)))) (le-leb (length bytes) (length o) h)
+-- the count that is taken out of such an answer
+pub count_is : {r : Result ℕ ℕ} {n m : ℕ} → r ≡ Ok n → r ≡ Ok m → n ≡ m
+count_is e f = let g : ◌≡◌ {A = Result ℕ ℕ} (Ok _) (Ok _) = sym e ∙ f in cc
 
 -- a reply with room is written whole
-pub reply_sent : (v : ℕ) (service : ServiceType) (info : ℕ) (session : SessionId) (message : MessageId) (p o : List ℕ) → 128 ≤ length o → 1 ≤ v → v ≤ 5
-    → listed_service service ≡ true → info_fits 0 info ≡ true → length p ≤ 116
-    → sent_by (write_of (reply_header v service info session (length p) message) p o) ≡ sent_of (reply_bytes v service info session message p) o
-reply_sent v service info session message p o room least most listed fits short =
+pub reply_done : {r : Result ℕ ℕ} {q : List ℕ} (v : ℕ) (service : ServiceType) (info : ℕ) (session : SessionId) (message : MessageId) (p o : List ℕ) → 128 ≤ length o → 1 ≤ v
+    → v ≤ 5 → listed_service service ≡ true → info_fits 0 info ≡ true → length p ≤ 116
+    → wrote r q ≡ write_of (reply_header v service info session (length p) message) p o
+    → (let bytes : List ℕ = reply_bytes v service info session message p in (r ≡ Ok (length bytes)) × (q ≡ laid bytes o))
+reply_done v service info session message p o room least most listed fits short e =
     let h : Header = reply_header v service info session (length p) message in
-    ap sent_by (write_puts h p o (reply_sound v service info session p least most listed fits (omega arith) message) refl)
-    ∙ put_sent (frame_bytes h p) o (omega (arith, frame_length h p, header_range v))
+    put_done (frame_bytes h p) o (omega (arith, frame_length h p, header_range v))
+    (e ∙ write_puts h p o (reply_sound v service info session p least most listed fits (omega arith) message) refl)
 
 -- the front of a buffer that was written to
 pub front_is : {n : ℕ} {q : List ℕ} (bytes o : List ℕ) → n ≡ length bytes → q ≡ laid bytes o → take (n - 0) (drop 0 q) ≡ bytes
@@ -87,33 +89,23 @@ front_is {n = n} bytes o e f =
     let z : n - 0 ≡ length bytes = omega arith in
     rw (z, f) (take_at bytes (drop (length bytes) o) (length bytes) refl)
 
--- a writer's count and buffer, from its answer
-pub counted : {n : ℕ} {w : Written} {q : List ℕ} {x : Wrote} → n ≡ count_of w → wrote w q ≡ x → sent n q ≡ sent_by x
-counted {q = q} e f = ap (λ (k : ℕ). sent k q) e ∙ ap sent_by f
+-- what a payload's writer leaves of bytes that fit
+pub payload_done : {r : Result ℕ ℕ} {q : List ℕ} (bytes o : List ℕ) → length bytes ≤ length o → payloads.wrote r q ≡ payloads.put_of bytes o
+    → (r ≡ Ok (length bytes)) × (q ≡ laid bytes o)
+payload_done {r = r} {q = q} bytes o h e =
+    let g : payloads.wrote r q ≡ payloads.wrote (Ok (length bytes)) (laid bytes o)
+    = e ∙ ap (λ (b : Bool). unless b (payloads.wrote (Err 11) o) (payloads.wrote (Ok (length bytes)) (laid bytes o))) (le-leb (length bytes) (length o) h) in
+    (ap (λ (x : payloads.Wrote). x.answer) g, ap (λ (x : payloads.Wrote). x.out) g)
 
--- the same of a payload's writer: the front of its buffer is the payload
-pub payload_front : {n : ℕ} {w : Payload.Written} {q : List ℕ} (bytes o : List ℕ) → length bytes ≤ length o → n ≡ payload_count_of w → payloads.wrote w q ≡ payloads.put_of bytes o
-    → (n ≡ length bytes) × (q ≡ laid bytes o)
-payload_front {w = w} {q = q} bytes o h e f =
-    let g : payloads.wrote w q ≡ payloads.wrote (payload.Bytes (length bytes)) (laid bytes o)
-    = f ∙ ap (λ (b : Bool). unless b (payloads.wrote (payload.Refused 11) o) (payloads.wrote (payload.Bytes (length bytes)) (laid bytes o))) (le-leb (length bytes) (length o) h) in
-    (e ∙ ap (λ (x : payloads.Wrote). payload_count_of x.answer) g, ap (λ (x : payloads.Wrote). x.out) g)
-
--- and of one whose bytes say a version that can be read
-pub said_front : {n : ℕ} {w : Payload.Written} {q : List ℕ} (v : Version) (bytes o : List ℕ) → 1 ≤ v.major → length bytes ≤ length o → n ≡ payload_count_of w
-    → payloads.wrote w q ≡ saying_of v bytes o → (n ≡ length bytes) × (q ≡ laid bytes o)
-said_front v bytes o one h e f = payload_front bytes o h e (f ∙ sym (in_range_put v bytes o one))
+-- and of ones that say a version that can be read
+pub said_done : {r : Result ℕ ℕ} {q : List ℕ} (v : Version) (bytes o : List ℕ) → 1 ≤ v.major → length bytes ≤ length o → payloads.wrote r q ≡ saying_of v bytes o
+    → (r ≡ Ok (length bytes)) × (q ≡ laid bytes o)
+said_done v bytes o one h e = payload_done bytes o h (e ∙ sym (in_range_put v bytes o one))
 
 -- four bytes put into four
 pub raw_put : {q : List ℕ} (z b : List ℕ) → length z ≡ 4 → length b ≡ 4 → q ≡ put_at z 0 4 b → q ≡ b
 raw_put z b e f g =
     g ∙ put_fits z 0 4 b (omega arith) ∙ pasted z b 0 4 f ∙ ap (λ (x : List ℕ). b ++ x) (drop_of_length-le z {i = 4} (omega arith)) ∙ append-nil b
-
--- a payload that fills its buffer
-pub payload_whole : {w : Payload.Written} {q : List ℕ} (bytes o : List ℕ) → length bytes ≡ length o → payloads.wrote w q ≡ payloads.put_of bytes o → q ≡ bytes
-payload_whole {w = w} {q = q} bytes o h f =
-    (payload_front {n = payload_count_of w} {w = w} {q = q} bytes o (omega arith) refl f).1
-    ∙ ap (λ (x : List ℕ). bytes ++ x) (drop_of_length-le o {i = length bytes} (omega arith)) ∙ append-nil bytes
 
 -- the longer of the two names has 15 bytes
 pub nak_short : (p : Parameter) → length (nak_payload (name_of p)) ≤ 49
@@ -150,7 +142,7 @@ module _ (room size total : ℕ) where
       either P (eqb h.info 0x04) _ _
       (λ _.
       unless_elim P (endable r h.service.0) (NoEnd false) _ (λ _. tt) λ _.
-      unless_elim P (said.found && eqb said.hash (hash_of r h.service.0)) (NoEnd (eqb r.version 5)) _ (λ _. tt) λ _.
+      unless_elim P (is_hash said.hash (hash_of r h.service.0)) (NoEnd (eqb r.version 5)) _ (λ _. tt) λ _.
       either P (eqb h.service.0 0x07) Close Stop (λ _. tt) (λ _. tt)) λ _.
       either P (eqb h.info 0x00) Beat Accept (λ _. tt) (λ _. tt)
 
@@ -199,28 +191,46 @@ opened_link l i id r q g v w e f k m n =
     ∙ ap (λ (x : Row). with_row l i x) (m ∙ ap (λ (x : ℕ). opened_row id g.guarantee g.cap x g.hash) k ∙ ap (λ (x : SessionId). opened_row x g.guarantee g.cap w g.hash) f)
     ∙ ap (λ (x : ℕ). with_row l x (opened_row (new_id l.rows) g.guarantee g.cap w g.hash)) e
 
--- the same with its ACK of an old version: n bytes of out are written, o' is out after it
-pub old_opened : (l : Link) (i consumed : ℕ) (g : Grant) (v w : ℕ) (id : SessionId) (r : Row) (n : ℕ) (o o' p : List ℕ) → i ≡ index_of 0 l.rows
-    → id ≡ new_id l.rows → v ≡ min l.version.major 4 → w ≡ old_version l.version.major → r ≡ opened_row id g.guarantee g.cap w g.hash
-    → sent n o' ≡ sent_of (reply_bytes v rpc 0x02 id first_message_id (bytes_be 4 g.hash)) o
+-- the same with its ACK: n bytes of out are written, o' is out after it
+pub session_opened : (l : Link) (i consumed : ℕ) (g : Grant) (wish : Option Version) (v : ℕ) (id : SessionId) (r : Row) (n : ℕ) (o o' p : List ℕ) → i ≡ index_of 0 l.rows
+    → id ≡ new_id l.rows → v ≡ version_for l.version.major wish → r ≡ opened_row id g.guarantee g.cap v g.hash
+    → sent n o' ≡ sent_of (ack_for l id g.hash wish) o
     → replied_with answer.Acked consumed (with_row l i r) p (sent n o')
-    ≡ opened l p o consumed g (old_version l.version.major) (old_ack l.version.major (new_id l.rows) g.hash)
-old_opened l i consumed g v w id r n o o' p at lowest settled version row written =
-    let major : ℕ = min l.version.major 4 in
-    let ack : ℕ → SessionId → Sent = λ x k. sent_of (reply_bytes x rpc 0x02 k first_message_id (bytes_be 4 g.hash)) o in
-    ap (replied_with answer.Acked consumed (with_row l i r) p) (written ∙ ap (λ (x : ℕ). ack x id) settled ∙ ap (λ (k : SessionId). ack major k) lowest)
-    ∙ ap (λ (x : Link). replied_with answer.Acked consumed x p (ack major (new_id l.rows)))
-    (opened_link l i id r (with_row l i r) g w (old_version l.version.major) at lowest version row refl)
+    ≡ opened l p o consumed g (version_for l.version.major wish) (ack_for l (new_id l.rows) g.hash wish)
+session_opened l i consumed g wish v id r n o o' p at lowest version row written =
+    let ack : SessionId → Sent = λ k. sent_of (ack_for l k g.hash wish) o in
+    ap (replied_with answer.Acked consumed (with_row l i r) p) (written ∙ ap ack lowest)
+    ∙ ap (λ (x : Link). replied_with answer.Acked consumed x p (ack (new_id l.rows)))
+    (opened_link l i id r (with_row l i r) g v (version_for l.version.major wish) at lowest version row refl)
 
--- the same with its ACK in version 5: n bytes of out are written, o' is out after it
-pub new_opened : (l : Link) (i consumed : ℕ) (g : Grant) (wish v : Version) (id : SessionId) (r : Row) (q : Link) (n : ℕ) (o o' p : List ℕ) → i ≡ index_of 0 l.rows
-    → id ≡ new_id l.rows → v ≡ lesser_of l.version wish → r ≡ opened_row id g.guarantee g.cap 5 g.hash → q ≡ with_row l i r
-    → sent n o' ≡ sent_of (new_ack id g.hash l.mtu v) o
-    → replied_with answer.Acked consumed q p (sent n o') ≡ opened l p o consumed g 5 (new_ack (new_id l.rows) g.hash l.mtu (lesser_of l.version wish))
-new_opened l i consumed g wish v id r q n o o' p at lowest settled row link written =
-    let ack : SessionId → Version → Sent = λ k x. sent_of (new_ack k g.hash l.mtu x) o in
-    ap (replied_with answer.Acked consumed q p) (written ∙ ap (λ (x : Version). ack id x) settled ∙ ap (λ (k : SessionId). ack k (lesser_of l.version wish)) lowest)
-    ∙ ap (λ (x : Link). replied_with answer.Acked consumed x p (ack (new_id l.rows) (lesser_of l.version wish))) (opened_link l i id r q g 5 5 at lowest refl row link)
+-- an opening that wishes a version which can be read
+pub opening_is : (l : Link) (p o : List ℕ) (consumed : ℕ) (g : Grant) (w : Wish) (wish : Option Version) → wished w ≡ Ok wish
+    → opening_by l p o consumed g w
+    ≡ unless (admits l.rows g) (not_opened l p o consumed g []) (opened l p o consumed g (version_for l.version.major wish) (ack_for l (new_id l.rows) g.hash wish))
+opening_is l p o consumed g old wish e = let f : ◌≡◌ {A = Option Version} None wish = cc in rw (← f)
+opening_is l p o consumed g (new v) wish e = let f : ◌≡◌ {A = Option Version} (Some v) wish = cc in rw (← f)
+opening_is l p o consumed g bad wish e = absurd (cc)
+
+pub opening_refused : (l : Link) (p o : List ℕ) (consumed : ℕ) (g : Grant) (w : Wish) (wish : Option Version) → wished w ≡ Ok wish → admits l.rows g ≡ false
+    → opening_by l p o consumed g w ≡ not_opened l p o consumed g []
+opening_refused l p o consumed g w wish e full = opening_is l p o consumed g w wish e ∙ rw full
+
+pub opening_granted : (l : Link) (p o : List ℕ) (consumed : ℕ) (g : Grant) (w : Wish) (wish : Option Version) → wished w ≡ Ok wish → admits l.rows g ≡ true
+    → opening_by l p o consumed g w ≡ opened l p o consumed g (version_for l.version.major wish) (ack_for l (new_id l.rows) g.hash wish)
+opening_granted l p o consumed g w wish e fits = opening_is l p o consumed g w wish e ∙ rw fits
+
+-- one that cannot be read
+pub opening_rejected : (l : Link) (p o : List ℕ) (consumed : ℕ) (g : Grant) (w : Wish) (x : Parameter) → wished w ≡ Err x
+    → opening_by l p o consumed g w ≡ not_opened l p o consumed g (rejection (Some x))
+opening_rejected l p o consumed g old x e = absurd (cc)
+opening_rejected l p o consumed g (new v) x e = absurd (cc)
+opening_rejected l p o consumed g bad x e = let f : ◌≡◌ {A = Parameter} parameter.ProtocolVersion x = cc in ap (λ (y : Parameter). not_opened l p o consumed g (rejection (Some y))) f
+
+-- a version that is wished is one from 5.0.0 on, and has a major from 1 on
+pub wished_least : (major : ℕ) (payload : List ℕ) (w : Wish) (wish : Option Version) → wish_of major payload ≡ w → wished w ≡ Ok wish → (v : Version) → wish ≡ Some v → 1 ≤ v.major
+wished_least major payload old wish d e v f = let g : ◌≡◌ {A = Option Version} None (Some v) = cc in absurd (cc)
+wished_least major payload (new u) wish d e v f = let g : u ≡ v = cc in (wish_bounded major payload v (d ∙ ap new g)).least
+wished_least major payload bad wish d e v f = absurd (cc)
 
 -- Short tells what the reader needs
 pub short_is : (l : Link) (p s o : List ℕ) (g : Grant) (needed : ℕ) → guard_of l (length p) g ≡ true → read_of s ≡ reading.Short needed
@@ -244,8 +254,8 @@ unfolding call_of
 read_frame l p s o g h e guard read = rw (guard, read)
 
 -- an accepted payload's version string lies inside it
-pub inside : (s : List ℕ) (t : Tags) → payload_of s ≡ Accepted t → t.version.found ≡ true → t.version.at + t.version.length ≤ length s
-inside s t e f = omega (arith, (subst (AcceptedHolds (VersionInside s)) e (version_inside s) f).0)
+pub inside : (s : List ℕ) (t : Tags) (a : Span) → payload_of s ≡ Ok t → t.version ≡ Some a → a.at + a.length ≤ length s
+inside s t a e f = let h : VersionInside s t = subst (AcceptedHolds (VersionInside s)) e (version_inside s) in let g = rw f at h in omega (arith, g.0)
 
 -- what a frame of an open session in a link within the rules has
 pub serves : (l : Link) (n : ℕ) (g : Grant) (i : ℕ) (s : List ℕ) (h : Header) (e : Extent) (out : List ℕ) → guard_of l n g ≡ true → read_of s ≡ reading.Frame h e
@@ -254,7 +264,7 @@ serves l n g i s h e out guard read at eight below z room =
     let there : index_of h.session.0 l.rows < length l.rows = omega arith in
     let id : (get_or l.rows i no_row).id.0 ≡ h.session.0 = ap (λ (x : ℕ). (get_or l.rows x no_row).id.0) at ∙ index_row h.session.0 l.rows there in
     let v = guard_version l n g i guard (omega arith) (λ x. z (sym id ∙ x)) in
-    (below, (room, (v.0, (v.1, (fault_none h (frame_sound s h e read)).service))))
+    (room, (v.0, (v.1, (fault_none h (frame_sound s h e read)).service)))
 
 -- a frame with too little room in out
 pub frame_small : (l : Link) (p s o : List ℕ) (h : Header) (e : Extent) (g : Grant) → length o < 128 → after (answer.Refused 11) l p o ≡ frame_of l p s o h e g

@@ -2,14 +2,12 @@
 -- By cases of the decision. Assumes nothing.
 use Prim.Native.Nat.{ℕ, zero, suc, ◌-◌, ◌<◌, ◌≤◌}
 use mathlib.Core.Bool.{true, false, true≢false}
-use borrow.Author.Tests.{eq-eqb, ne_eqb, eqb-true}
+use borrow.Author.Tests.{eq-eqb, ne_eqb}
 use mathlib.Core.Path.{◌≡◌, refl, ap, ap₂, sym, ◌∙◌}
 use mathlib.Core.List.{List, [], ◌∷◌}
-use lib.Dec.{eqb}
 use native.Mathlib.Omega.{arith}
 use lib.ListN.{length, get_or, set, take}
 use Rattle.numbers.specs.Bytes.{AreBytes, part, laid}
-use Rattle.numbers.proofs.Choices.{and_both}
 use Rattle.numbers.specs.Numbers.{value_be}
 use Rattle.frame.specs.declared.Header.{Header}
 use Rattle.frame.specs.declared.MessageId.{MessageId}
@@ -37,9 +35,8 @@ use Rattle.state.specs.Calls.{is_state, Left, left, left_by, stored_in, with_own
 use Rattle.state.proofs.Packed.{part_length}
 use Rattle.state.proofs.Rows.{row_of_link}
 use Rattle.state.proofs.Stored.{stored_same, stored_row, stored_both, owners_of}
-use Rattle.headunit.specs.declared.replies.From.{From}
-use Rattle.headunit.specs.Unit.{Ready, Sent, sent, sent_of}
-use Rattle.headunit.specs.Steps.{Case, case_of, Told, told, told_of, owners_after, changes, link_after}
+use Rattle.headunit.specs.Unit.{Sent, sent, sent_of}
+use Rattle.headunit.specs.Steps.{Origin, Case, case_of, Told, told, told_of, owners_after, changes, link_after}
 
 -- ---- the decision
 
@@ -98,9 +95,9 @@ told_delivery k os payload p o {p' = p'} fed written =
 
 -- ---- an answer that leaves the state, and one that stores a link
 
-pub ready_is : (s : List ℕ) → is_state s ≡ true → AreBytes s → Ready s
-unfolding is_state
-ready_is s e b = (eqb-true (length s) 2688 (and_both (eqb (length s) 2688) _ e).0, b)
+-- a state as the inner functions find it, by their types: as many bytes as it should be, and bytes they are
+abbrev pub Ready : List ℕ → Type 0
+Ready s = (length s ≡ 2688) × AreBytes s
 
 pub state_left : (s : List ℕ) → Ready s → (a : Answer) (p o : List ℕ) {w : After} → after a (link_of s) p o ≡ w → left a s p o ≡ left_by s w
 state_left s ready a p o e = ap (λ (x : List ℕ). left a x p o) (sym (stored_same s ready.1 ready.0)) ∙ ap (left_by s) e
@@ -117,18 +114,18 @@ called_in s p input o g t e = e ∙ rw t
 
 -- what the code has of a case is the case's: whom a reply comes from, a message, its owner, the block map
 module _ (k : Case) (os payload p o : List ℕ) where
-  abbrev by : From → ℕ → MessageId → List ℕ → List ℕ
+  abbrev by : Origin → ℕ → MessageId → List ℕ → List ℕ
   by x info message bytes = reply_bytes x.version x.service info x.session message bytes
 
-  pub replied_is : (kind : ℕ → ℕ → Answer) (info : ℕ) {f : From} {m₁ m₂ : MessageId} {b₁ b₂ : List ℕ} {n : ℕ} {o' : List ℕ} → f ≡ k.from → m₁ ≡ m₂ → b₁ ≡ b₂
+  pub replied_is : (kind : ℕ → ℕ → Answer) (info : ℕ) {f : Origin} {m₁ m₂ : MessageId} {b₁ b₂ : List ℕ} {n : ℕ} {o' : List ℕ} → f ≡ k.from → m₁ ≡ m₂ → b₁ ≡ b₂
       → sent n o' ≡ sent_of (by f info m₁ b₁) o
       → told (kind k.consumed n) p o' ≡ told (kind k.consumed (length (by k.from info m₂ b₂))) p (laid (by k.from info m₂ b₂) o)
   replied_is kind info {m₁ = m₁} {b₁ = b₁} from numbered carried written =
       told_reply kind k.consumed p
-      (written ∙ ap (λ (x : From). sent_of (by x info m₁ b₁) o) from ∙ ap₂ (λ (m : MessageId) (b : List ℕ). sent_of (by k.from info m b) o) numbered carried)
+      (written ∙ ap (λ (x : Origin). sent_of (by x info m₁ b₁) o) from ∙ ap₂ (λ (m : MessageId) (b : List ℕ). sent_of (by k.from info m b) o) numbered carried)
 
   -- the same where number and bytes are not the row's
-  pub replied_plain : (kind : ℕ → ℕ → Answer) (info : ℕ) (m : MessageId) (b : List ℕ) {f : From} {n : ℕ} {o' : List ℕ} → f ≡ k.from → sent n o' ≡ sent_of (by f info m b) o
+  pub replied_plain : (kind : ℕ → ℕ → Answer) (info : ℕ) (m : MessageId) (b : List ℕ) {f : Origin} {n : ℕ} {o' : List ℕ} → f ≡ k.from → sent n o' ≡ sent_of (by f info m b) o
       → told (kind k.consumed n) p o' ≡ told (kind k.consumed (length (by k.from info m b))) p (laid (by k.from info m b) o)
   replied_plain kind info m b from written = replied_is kind info {m₁ = m} {m₂ = m} {b₁ = b} {b₂ = b} from refl refl written
 

@@ -1,11 +1,12 @@
 -- The call on a frame of a session in three steps, as the code takes them: the decision (`decision_of`, link/specs/Call), what is told in pool and out, and
 -- what becomes of row and block map. `applied` (link/specs/Call) is these together (`applied_parts`, proofs/Parts).
 -- Assumes nothing.
-use Rattle.std.specs.Prelude.{ℕ, ◌-◌, ◌≤◌, ◌≡◌, Bool, true, false, List, [], eqb, length, take, get_or}
+use Rattle.std.specs.Prelude.{ℕ, ◌-◌, ◌≤◌, ◌≡◌, min, Bool, true, false, List, [], eqb, length, take, get_or}
 use Rattle.numbers.specs.Bytes.{pick, laid}
 use Rattle.frame.specs.declared.Header.{Header}
 use Rattle.frame.specs.declared.MessageId.{MessageId}
 use Rattle.frame.specs.declared.ServiceType.{ServiceType}
+use Rattle.frame.specs.declared.SessionId.{SessionId}
 use Rattle.frame.specs.Rules.{listed_service}
 use Rattle.payload.specs.Tags.{hash_id}
 use Rattle.payload.specs.Reply.{nak_payload}
@@ -22,7 +23,7 @@ use Rattle.link.specs.declared.Answer.{Answer}
 use Rattle.link.specs.declared.Answer.TheVariants as answer
 use Rattle.link.specs.declared.Link.{Link}
 use Rattle.link.specs.State.{owner_of, with_row, with_owners}
-use Rattle.link.specs.Reply.{reply_bytes, start_ack, start_nak, end_ack, end_nak, beat_ack, granted_payload}
+use Rattle.link.specs.Reply.{rpc, reply_bytes, start_ack, start_nak, end_ack, end_nak, beat_ack, granted_payload}
 use Rattle.headunit.specs.declared.replies.From.{From}
 
 -- the block map after a decision about row i's message at a place
@@ -62,14 +63,28 @@ abbrev pub link_after : Link → ℕ → Header → ℕ → Act → Link
 link_after l i h hash act =
     with_owners (with_row l i (row_after (get_or l.rows i no_row) h hash act)) (owners_after i (place_of h.service.0) l.owners act)
 
+-- whom a reply comes from
+pub record Origin : Type 0 where
+  pub version : ℕ
+  pub service : ServiceType
+  pub session : SessionId
+
+-- in code
+abbrev pub origin_of : From → Origin
+origin_of f = record { version = f.version; service = f.service; session = f.session }
+
+-- "header version min(M, 4), session 0" of an opening's NAK; its old ACK has the new id
+abbrev pub from_opening : ℕ → SessionId → Origin
+from_opening major id = record { version = min major 4; service = rpc; session = id }
+
 -- "Replies carry its id and version"
-abbrev pub from_row : ℕ → Row → ServiceType → From
+abbrev pub from_row : ℕ → Row → ServiceType → Origin
 from_row major r service = record { version = reply_version major r; service = service; session = r.id }
 
 -- what a decision is carried out with
 pub record Case : Type 0 where
   -- whom a reply comes from
-  pub from : From
+  pub from : Origin
   -- the session's row
   pub row : Row
   -- the message on the frame's service, and its blocks' owner
@@ -133,7 +148,7 @@ module _ (k : Case) (os payload p o : List ℕ) where
   told_of Single = told (answer.Delivered k.consumed k.from.service (length payload)) p (laid payload o)
 
 -- what a reply needs: room, and a version and a service that a frame may have
-abbrev pub Repliable : From → List ℕ → Type 0
+abbrev pub Repliable : Origin → List ℕ → Type 0
 Repliable f out = (128 ≤ length out) × ((1 ≤ f.version) × ((f.version ≤ 5) × (listed_service f.service ≡ true)))
 
 -- out has room for what a decision delivers: `payload` bytes of a Single Frame, `total` bytes of a message

@@ -3,14 +3,15 @@
 use Prim.Native.Nat.{ℕ, zero, suc, ◌+◌, ◌-◌, ◌*◌, ◌/◌, ◌%◌, ◌<◌, ◌≤◌}
 use mathlib.Core.Path.{◌≡◌, refl, sym}
 use mathlib.Core.List.{List, [], ◌∷◌}
-use mathlib.Core.Bool.{true, false, ◌||◌, and-false}
+use mathlib.Core.Bool.{true, false, and-false}
 use native.Mathlib.Omega.{arith}
 use lib.ListN.{length, get_or}
 use lib.Dec.{leb, ltb}
 use borrow.Author.Tests.{le-leb, lt-leb, leb-true, ltb-true, ltb-false, lt-ltb}
 use Rattle.numbers.proofs.Choices.{split}
+use Rattle.std.specs.Char.{is_ascii_hexdigit}
 use Rattle.lines.specs.Text.{between, every}
-use Rattle.lines.specs.Hex.{digit_of, is_hex, is_lower_hex, bytes_of, letter_of, hex_of}
+use Rattle.lines.specs.Hex.{digit_of, is_hex, bytes_of, letter_of, hex_of}
 use Rattle.lines.specs.Decimal.{is_decimal}
 use Rattle.lines.proofs.Turns.{both, every_says}
 
@@ -38,11 +39,11 @@ module _ (b : ℕ) where
   digit_lower l h = rw (above 48 57 b (omega arith), within 97 102 b l h)
 
   -- the characters whose value is below 16 are those of the three ranges
-  pub hex_ranges : (is_lower_hex b || between 65 70 b) ≡ is_hex b
-  unfolding is_lower_hex digit_of
+  pub hex_ranges : is_ascii_hexdigit b ≡ is_hex b
+  unfolding digit_of
   hex_ranges =
       split (between 48 57 b) (λ e. rw e (sym (lt-ltb (b - 48) 16 (omega (arith, says 48 57 b e))))) λ e.
-      split (between 97 102 b) (λ f. rw (e, f) (sym (lt-ltb (b - 87) 16 (omega (arith, says 97 102 b f))))) λ f.
+      split (between 97 102 b) (λ f. rw (e, f, above 65 70 b (omega (arith, says 97 102 b f))) (sym (lt-ltb (b - 87) 16 (omega (arith, says 97 102 b f))))) λ f.
       split (between 65 70 b) (λ g. rw (e, f, g) (sym (lt-ltb (b - 55) 16 (omega (arith, says 65 70 b g))))) λ g.
       rw (e, f, g)
 

@@ -12,7 +12,8 @@ use lib.Dec.{ltb}
 use borrow.Author.Tests.{ltb-true, ltb-false, ne_eqb}
 use Rattle.numbers.specs.Bytes.{laid}
 use Rattle.numbers.proofs.Choices.{split}
-use Rattle.lines.specs.Decimal.{value_from, digits_by, decimal_of}
+use Rattle.std.specs.Prelude.{Some, None}
+use Rattle.lines.specs.Decimal.{short, value_from, digits_by, decimal_of}
 use Rattle.lines.proofs.Turns.{back_at}
 
 -- what holds below ten, and of n where it holds of n / 10, holds of every number
@@ -122,3 +123,10 @@ pub value_most : (v : ℕ) (text : List ℕ) → v ≤ value_from v text
 unfolding value_from
 value_most v [] = omega arith
 value_most v (b ∷ text) = omega (arith, value_most (v * 10 + (b - 48)) text)
+
+-- what a number of at most 64 bits, and none, say
+pub short_some : (n r : ℕ) → Some r ≡ short n → (r ≡ n) × (n < 2 ^ 64)
+short_some n r e = split (ltb n (2 ^ 64)) (λ t. let f = rw t at e in (cc, ltb-true n (2 ^ 64) t)) (λ t. let f = rw t at e in cc)
+
+pub short_none : (n : ℕ) → None ≡ short n → 2 ^ 64 ≤ n
+short_none n e = split (ltb n (2 ^ 64)) (λ t. let f = rw t at e in cc) (λ t. ltb-false n (2 ^ 64) t)

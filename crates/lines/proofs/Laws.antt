@@ -13,8 +13,8 @@ use Rattle.lines.specs.Text.{between, every}
 use Rattle.numbers.specs.Bytes.{laid, AreBytes}
 use Rattle.lines.specs.Hex.{digit_of, is_hex, is_lower_hex, bytes_of, decoded, decode_of, letter_of, hex_of}
 use Rattle.lines.specs.Decimal.{is_decimal, value_from, value_of, number_of, decimal_of}
-use Rattle.lines.specs.declared.Decoded.TheVariants.{Bytes}
-use Rattle.lines.specs.declared.Number.TheVariants.{Value, TooLarge}
+use Rattle.std.specs.Prelude.{Ok, Err}
+use Rattle.lines.specs.declared.NumberFault.TheVariants.{TooLarge}
 use Rattle.lines.proofs.Turns.{both}
 use Rattle.lines.proofs.Characters.{within, above, says, digit_ten, digit_lower, length_hex}
 use Rattle.lines.proofs.Digits.{by_tens, decimal_one, decimal_step, width_some}
@@ -72,7 +72,7 @@ bytes_hex (b ∷ bytes) h =
     rw (digit_letter (b / 16) (omega arith), digit_letter (b % 16) (omega arith), e, bytes_hex bytes h.1)
 
 pub decode_encoded : (bytes out : List ℕ) → AreBytes bytes → length bytes ≤ length out
-    → decode_of (hex_of bytes) out ≡ decoded (Bytes (length bytes)) (laid bytes out)
+    → decode_of (hex_of bytes) out ≡ decoded (Ok (length bytes)) (laid bytes out)
 unfolding decode_of
 decode_encoded bytes out h room =
     let odd : 2 * length bytes % 2 ≡ 1 → ⊥ = λ e. omega arith in
@@ -138,10 +138,10 @@ module _ (n : ℕ) where
       let some : length (decimal_of n) ≡ 0 → ⊥ = λ e. omega (arith, width_some n) in
       rw (ne_eqb (length (decimal_of n)) 0 some, decimal_digits n)
 
-  pub number_decimal : n < 2 ^ 64 → number_of (decimal_of n) ≡ Value n
+  pub number_decimal : n < 2 ^ 64 → number_of (decimal_of n) ≡ Ok n
   unfolding value_of
   number_decimal h = number_value ∙ rw (decimal_value n, lt-ltb n (2 ^ 64) h)
 
-  pub number_large : 2 ^ 64 ≤ n → number_of (decimal_of n) ≡ TooLarge
+  pub number_large : 2 ^ 64 ≤ n → number_of (decimal_of n) ≡ Err TooLarge
   unfolding value_of
   number_large h = number_value ∙ rw (decimal_value n, le-ltb n (2 ^ 64) h)

@@ -1,24 +1,25 @@
 -- The end of a line, looked for in groups of characters and then one by one. By induction over the text, and by the laws of take and drop. Assumes nothing.
-use Prim.Native.Nat.{ℕ, suc, ◌+◌, ◌-◌, ◌<◌, ◌≤◌, min}
-use mathlib.Core.Path.{◌≡◌, ◌∙◌, sym}
+use Prim.Native.Nat.{ℕ, ◌+◌, ◌-◌, ◌≤◌, min}
+use mathlib.Core.Path.{◌≡◌, refl, ◌∙◌, sym}
 use mathlib.Core.List.{List, [], ◌∷◌, ◌++◌}
 use mathlib.Core.Bool.{true}
-use native.Mathlib.Numerals.{add-one}
 use native.Mathlib.Omega.{arith}
 use lib.Dec.{eqb, leb}
-use lib.ListN.{length, take, drop, get_or, length-drop, take-append-drop, drop_of_length-le}
-use lib.Seq.{drop-cons, drop-drop, length-take-le}
-use borrow.Author.Tests.{eq-eqb, ne_eqb, leb-true, leb-false}
+use lib.ListN.{length, take, drop, length-drop, take-append-drop, drop_of_length-le}
+use lib.Seq.{drop-drop, length-take-le}
+use borrow.Author.Tests.{leb-true, leb-false}
 use Rattle.numbers.proofs.Choices.{split}
 use Rattle.numbers.proofs.Slices.{rest_lent}
 use Rattle.lines.specs.Text.{every}
 use Rattle.lines.specs.Newline.{is_in_line, line_length, line_end_of}
+use Rattle.lines.specs.Place.{index_of}
+use Rattle.lines.proofs.Places.{index_within}
 
--- a line ends within the text
-pub line_within : (text : List ℕ) → line_length text ≤ length text
-unfolding line_length
-line_within [] = omega arith
-line_within (b ∷ text) = split (eqb b 10) (λ e. rw e (omega arith)) (λ e. rw e (omega (arith, line_within text)))
+-- a line is as long as the place of its newline says
+pub line_is : (text : List ℕ) → index_of 10 text ≡ line_length text
+unfolding index_of line_length
+line_is [] = refl
+line_is (b ∷ text) = rw (line_is text)
 
 -- characters with no newline among them are passed
 line_passed : (front rest : List ℕ) → every is_in_line front ≡ true → line_length (front ++ rest) ≡ length front + line_length rest
@@ -28,19 +29,6 @@ line_passed (b ∷ front) rest e =
     split (eqb b 10) (λ f. cc (rw f at e)) (λ f. rw f (omega (arith, line_passed front rest (rw f at e))))
 
 module _ (text : List ℕ) (at : ℕ) where
-  -- one character
-  pub line_here : at < length text → get_or text at 0 ≡ 10 → line_length (drop at text) ≡ 0
-  unfolding line_length
-  line_here h e = rw (drop-cons text at 0, eq-eqb (get_or text at 0) 10 e)
-
-  pub line_later : at < length text → (get_or text at 0 ≡ 10 → ⊥) → line_length (drop at text) ≡ suc (line_length (drop (at + 1) text))
-  unfolding line_length
-  line_later h e = rw (add-one at, drop-cons text at 0, ne_eqb (get_or text at 0) 10 e)
-
-  pub line_over : length text ≤ at → line_length (drop at text) ≡ 0
-  unfolding line_length
-  line_over h = rw drop_of_length-le
-
   -- a group, as the code lends it
   pub group_passed : (group : ℕ) → at + group ≤ length text → every is_in_line (take (at + group - at) (drop at text)) ≡ true
       → at + group + line_length (drop (at + group) text) ≡ at + line_length (drop at text)
@@ -53,12 +41,12 @@ module _ (text : List ℕ) (at : ℕ) where
       let far : drop group (drop at text) ≡ drop (at + group) text = drop-drop group at text in
       omega (arith, rw (whole, far) at passed)
 
--- what is found one by one, as the code lends it, lies within the text
-pub last_within : (text : List ℕ) (near last : ℕ) → near ≤ length text → last ≡ line_length (take (length text - near) (drop near text)) → near + last ≤ length text
-last_within text near last h l =
+-- what is found one by one, as the code lends it, lies within the text, whatever byte is looked for
+pub last_within : (b : ℕ) (text : List ℕ) (near last : ℕ) → near ≤ length text → last ≡ index_of b (take (length text - near) (drop near text)) → near + last ≤ length text
+last_within b text near last h l =
     let rest : List ℕ = take (length text - near) (drop near text) in
     let size : length rest ≡ length text - near = length-take-le (length text - near) (drop near text) (omega (arith, length-drop near text)) in
-    omega (arith, line_within rest)
+    omega (arith, index_within b rest)
 
 -- the two searches by groups and the one by characters together
 pub line_found : (text : List ℕ) (from start far near last : ℕ) → start ≡ min from (length text)

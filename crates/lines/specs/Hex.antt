@@ -1,10 +1,10 @@
 -- Hexadecimal text: two characters a byte, the upper half first. Document 01, "The bench program and the C side": "Digits in either case,
 -- written in lower". Assumes nothing.
-use Rattle.std.specs.Prelude.{ℕ, ◌+◌, ◌-◌, ◌*◌, ◌/◌, ◌%◌, List, [], ◌∷◌, Bool, not, ◌&&◌, ◌||◌, length, ltb, eqb}
+use Rattle.std.specs.Prelude.{ℕ, ◌+◌, ◌-◌, ◌*◌, ◌/◌, ◌%◌, List, [], ◌∷◌, Bool, not, ◌&&◌, ◌||◌, length, ltb, eqb, Result, Ok, Err}
 use Rattle.lines.specs.Text.{between, every}
 use Rattle.numbers.specs.Bytes.{pick, laid}
-use Rattle.lines.specs.declared.Decoded.{Decoded}
-use Rattle.lines.specs.declared.Decoded.TheVariants.{Bytes, Odd, NotHex, Full}
+use Rattle.lines.specs.declared.HexFault.{HexFault}
+use Rattle.lines.specs.declared.HexFault.TheVariants.{Odd, NotHex, Full}
 
 -- "Digits in either case": the value of '0' to '9', 'a' to 'f', 'A' to 'F'; 16 for any other character
 unfoldable pub digit_of : ℕ → ℕ
@@ -43,19 +43,19 @@ pair_byte pair = digit_of (pair % 256) * 16 + digit_of (pair / 256)
 
 -- what decoding leaves: its answer and the buffer
 pub record Decoding : Type 0 where
-  pub answer : Decoded
+  pub answer : Result ℕ HexFault
   pub buffer : List ℕ
 
-abbrev pub decoded : Decoded → List ℕ → Decoding
+abbrev pub decoded : Result ℕ HexFault → List ℕ → Decoding
 decoded r out = record { answer = r; buffer = out }
 
 -- refused in this order: an odd number of characters, a character that is no digit, a buffer too short; else the bytes go to its front
 unfoldable pub decode_of : List ℕ → List ℕ → Decoding
 decode_of text out =
-    pick (eqb (length text % 2) 1) (decoded Odd out)
-    (pick (not (every is_hex text)) (decoded NotHex out)
-    (pick (ltb (length out) (length text / 2)) (decoded Full out)
-    (decoded (Bytes (length text / 2)) (laid (bytes_of text) out))))
+    pick (eqb (length text % 2) 1) (decoded (Err Odd) out)
+    (pick (not (every is_hex text)) (decoded (Err NotHex) out)
+    (pick (ltb (length out) (length text / 2)) (decoded (Err Full) out)
+    (decoded (Ok (length text / 2)) (laid (bytes_of text) out))))
 
 -- "written in lower": the digit of a value below 16
 unfoldable pub letter_of : ℕ → ℕ

@@ -1,9 +1,7 @@
 -- What hexadecimal and decimal text share: tests on characters, and text that goes to the front of a lent buffer.
 -- A character is its number, as '0' is 48; a buffer is the list of its bytes. Assumes nothing.
-use Rattle.std.specs.Prelude.{ℕ, List, [], ◌∷◌, Bool, true, ◌&&◌, length, leb, ltb}
+use Rattle.std.specs.Prelude.{ℕ, List, [], ◌∷◌, Bool, true, ◌&&◌, length, leb, ltb, Option, Some, None}
 use Rattle.numbers.specs.Bytes.{pick, laid}
-use Rattle.lines.specs.declared.Encoded.{Encoded}
-use Rattle.lines.specs.declared.Encoded.TheVariants.{Chars, Full}
 
 -- whether b lies from low to high, both included
 abbrev pub between : ℕ → ℕ → ℕ → Bool
@@ -16,12 +14,12 @@ every test (b ∷ t) = test b && every test t
 
 -- what a call that writes text leaves: its answer and the buffer
 pub record Encoding : Type 0 where
-  pub answer : Encoded
+  pub answer : Option ℕ
   pub buffer : List ℕ
 
-abbrev pub encoded : Encoded → List ℕ → Encoding
+abbrev pub encoded : Option ℕ → List ℕ → Encoding
 encoded r out = record { answer = r; buffer = out }
 
--- the text goes to the front of the buffer; Full, with nothing written, where the buffer is too short
+-- the text goes to the front of the buffer; no answer, with nothing written, where the buffer is too short
 unfoldable pub written_of : List ℕ → List ℕ → Encoding
-written_of text out = pick (ltb (length out) (length text)) (encoded Full out) (encoded (Chars (length text)) (laid text out))
+written_of text out = pick (ltb (length out) (length text)) (encoded None out) (encoded (Some (length text)) (laid text out))

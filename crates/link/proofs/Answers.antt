@@ -34,7 +34,7 @@ use Rattle.link.specs.declared.Answer.{Answer}
 use Rattle.link.specs.declared.Answer.TheVariants as answer
 use Rattle.link.specs.Reply.{reply_bytes, start_ack, start_nak, end_ack, end_nak, beat_ack, granted_payload}
 use Rattle.link.specs.Call.{After, said_of, decision_of, applied}
-use Rattle.link.specs.Book.{Request, Command, call, next, Seen, within, ask_of, Due, due_on, names, Page, needs_in, reaches_room, ModestOn, ModestIn}
+use Rattle.link.specs.Book.{Request, Command, call, Seen, within, ask_of, Due, due_on, names, Page, needs_in, reaches_room, ModestOn, ModestIn}
 use Rattle.link.specs.Claim.{State, event_of, is_open, DeliversDue}
 use Rattle.link.specs.Pages.{notes_from, page_of, pages, Sane}
 use Rattle.link.proofs.Table.{shares_modest}

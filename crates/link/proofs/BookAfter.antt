@@ -3,7 +3,7 @@
 -- Assumes nothing.
 use Prim.Native.Nat.{ℕ, ◌-◌, ◌≤◌}
 use mathlib.Core.Path.{◌≡◌, refl, ap, ◌∙◌, sym, fun_ext}
-use mathlib.Core.Logic.{◌⊎◌, ⊎_elim}
+use mathlib.Core.Logic.{⊎_elim}
 use mathlib.Core.Bool.{Bool, true, false}
 use mathlib.Core.Option.{Option, none, some}
 use mathlib.Core.List.{List}
@@ -23,7 +23,7 @@ use Rattle.link.specs.declared.Grant.{Grant}
 use Rattle.link.specs.declared.Answer.TheVariants as answer
 use Rattle.link.specs.State.{index_of, with_row, with_owners}
 use Rattle.link.specs.Call.{After, admits, decision_of, applied}
-use Rattle.link.specs.Book.{Request, Command, call, Ask, end, Seen, opening, within, nothing, ask_of, Page, Book, with_page, lowest_not_in, new_page, page_after_if, noted, book_after}
+use Rattle.link.specs.Book.{Request, Command, call, Ask, Seen, opening, within, nothing, ask_of, Page, Book, with_page, lowest_not_in, new_page, page_after_if, noted, book_after}
 use Rattle.link.specs.Claim.{State, state_after, event_of, is_open}
 use Rattle.link.specs.Pages.{note_of, notes_from, page_of, page_if, pages, Sane}
 use Rattle.link.proofs.Table.{index_below, missing_set}

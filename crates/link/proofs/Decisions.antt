@@ -22,7 +22,7 @@ use Rattle.session.specs.declared.Act.{Act}
 use Rattle.session.specs.declared.Act.TheVariants.{Refuse, Drop, Accept, Beat, Start, NoStart, Stop, Close, NoEnd, Claim, Append, Deliver, Single}
 use Rattle.session.specs.Rows.{no_row, message_at}
 use Rattle.session.specs.Rules.{version_fits, mtu_fits, service_fits, command_fits, barred_by}
-use Rattle.session.specs.Decide.{place_of, need_of, held_of, share_of, first_of, sized, single_of, startable, starting_of, endable, hash_of, ending_of, control_of, content_of}
+use Rattle.session.specs.Decide.{is_hash, place_of, need_of, held_of, share_of, first_of, sized, single_of, startable, starting_of, endable, hash_of, ending_of, control_of, content_of}
 use Rattle.session.proofs.Laws.{Continues, Next, next_is}
 use Rattle.session.proofs.Laws as laws
 use Rattle.link.specs.declared.Link.{Link}
@@ -136,7 +136,7 @@ module _ (l : Link) (i : ℕ) (h : Header) (payload : List ℕ) where
   end_decided said =
       let P : Act → Type 0 = Decided (end place) in
       unless_elim P (endable r h.service.0) _ _ (λ _. ends_not) λ _.
-      unless_elim P (said.found && eqb said.hash (hash_of r h.service.0)) _ _ (λ _. ends_not) λ _.
+      unless_elim P (is_hash said.hash (hash_of r h.service.0)) _ _ (λ _. ends_not) λ _.
       either P (eqb h.service.0 0x07) _ _ (λ e. closes (place_one h.service.0 e)) (λ e. stops (place_other h.service.0 e))
 
   control_decided : (said : Said) → Decided (pick (eqb h.info 0x04) (end place) other) (control_of r h said)

@@ -1,7 +1,7 @@
 -- An opening's ACK enters a row under the lowest id that is not open, which is the lowest not in the book. By cases of the call, of which only
 -- the admitted opening answers so.
 -- Assumes nothing.
-use Prim.Native.Nat.{ℕ, ◌-◌, ◌≤◌, ◌<◌}
+use Prim.Native.Nat.{ℕ, ◌≤◌, ◌<◌}
 use mathlib.Core.Path.{◌≡◌, refl, ◌∙◌, sym, subst}
 use mathlib.Core.Bool.{true}
 use mathlib.Core.Option.{some}

@@ -1,16 +1,16 @@
 -- Every reply of a call is read back: by the frame reader as the header that was meant, with all its bytes consumed, and its payload as what it was to
 -- carry. By the cases of an opening and of a decision; what the replies need of version, service and numbers is what 10 and the frame reader leave.
 -- Assumes nothing.
-use Prim.Native.Nat.{ℕ, ◌+◌, ◌-◌, ◌^◌, ◌≤◌, ◌<◌, min}
-use mathlib.Core.Path.{◌≡◌, refl, ap, ◌∙◌, sym, subst}
+use Prim.Native.Nat.{ℕ, ◌^◌, ◌≤◌, ◌<◌}
+use mathlib.Core.Path.{◌≡◌, refl, ◌∙◌, sym, subst}
 use mathlib.Core.Bool.{Bool, true, false, ◌&&◌, not}
-use mathlib.Core.Option.{Option, none, some}
+use mathlib.Core.Option.{Option, some}
 use mathlib.Core.List.{List, []}
 use native.Mathlib.Omega.{arith}
 use lib.Dec.{eqb, ltb, leb}
 use lib.ListN.{length, get_or, take, drop}
 use lib.Seq.{take_at}
-use borrow.Author.Tests.{eqb-true, eqb-false, leb-true, ltb-true, not-true}
+use borrow.Author.Tests.{eqb-false, ltb-true, not-true}
 use Rattle.numbers.specs.Bytes.{pick, laid}
 use Rattle.numbers.specs.Numbers.{bytes_be}
 use Rattle.numbers.proofs.Laws.{length_be, read_written_le, read_written_be, written_read_le, written_read_be}
@@ -31,7 +31,7 @@ use Rattle.payload.specs.declared.version.Version.{Version}
 use Rattle.payload.specs.declared.reply.Parameter.TheVariants as parameter
 use Rattle.payload.specs.Tags.{protocol_version, hash_id}
 use Rattle.payload.specs.Version.{lesser_of}
-use Rattle.payload.specs.Reply.{ack_payload, service_ack_payload, nak_payload}
+use Rattle.payload.specs.Reply.{ack_payload, nak_payload}
 use Rattle.payload.proofs.Replies.{ack_most, length_service_ack, length_nak}
 use Rattle.payload.proofs.ReadBack.{ack_read, ack_version, service_ack_read, nak_says, version_back, text_written, ack_back, service_ack_back, nak_back, naks_apart}
 use Rattle.session.specs.declared.Row.{Row}
@@ -42,10 +42,10 @@ use Rattle.session.specs.Rules.{reply_version}
 use Rattle.link.specs.declared.Link.{Link}
 use Rattle.link.specs.declared.Grant.{Grant}
 use Rattle.link.specs.State.{index_of, guard_of}
-use Rattle.link.specs.Reply.{reply_bytes, granted_payload, rpc}
-use Rattle.link.specs.Call.{After, after, Wish, old, new, bad, wish_of, opens, admits, not_opened, opening_by, decision_of, applied, frame_of, reading_of, call_of}
+use Rattle.link.specs.Reply.{reply_bytes, granted_payload}
+use Rattle.link.specs.Call.{After, Wish, old, new, bad, wish_of, opens, admits, not_opened, opening_by, decision_of, applied, frame_of, reading_of, call_of}
 use Rattle.link.specs.Values.{values_of}
-use Rattle.link.specs.ReadBack.{Carried, empty, hash, granted, settled, rejecting, Says, Meant, nak_meant, meant_by, meant_in, meant_of, SaidBack, SaidBackIf, IfReply, Typed, ReplyReadBack, ReadBack}
+use Rattle.link.specs.ReadBack.{Carried, empty, hash, granted, rejecting, Says, Meant, nak_meant, meant_by, meant_in, meant_of, SaidBack, SaidBackIf, IfReply, Typed, ReplyReadBack, ReadBack}
 use Rattle.link.proofs.Table.{index_row}
 use Rattle.link.proofs.Decisions.{both_by}
 use Rattle.link.proofs.Calls.{two_unless}

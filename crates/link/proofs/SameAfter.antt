@@ -1,7 +1,7 @@
 -- A call that names a session leads states that agree on it to states that agree on it, unless it closes the session or goes above its
 -- guarantee: the page by the book, which sees one answer, the row by the one decision.
 -- Assumes nothing.
-use Prim.Native.Nat.{ℕ, ◌-◌}
+use Prim.Native.Nat.{ℕ}
 use mathlib.Core.Path.{◌≡◌, refl, ap, ◌∙◌, sym, subst}
 use mathlib.Core.Logic.{⊎_elim}
 use mathlib.Core.Bool.{Bool, true, false, true≢false, ◌&&◌, not}

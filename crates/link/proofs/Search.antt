@@ -29,7 +29,7 @@ use Rattle.link.specs.Call.{After, opens, decision_of, applied}
 use Rattle.link.specs.Book.{Seen, opening, within, nothing, Ask, first, ask_of, seen_of, is_accepted}
 use Rattle.link.specs.Claim.{State}
 use Rattle.link.specs.Pages.{Sane}
-use Rattle.link.specs.Search.{Shaped, Searched, owner_for, need_for, SearchCounts}
+use Rattle.link.specs.Search.{Shaped, Searched, owner_for, SearchCounts}
 use Rattle.link.proofs.Shown.{is_open_lem}
 use Rattle.link.proofs.Table.{owner_some}
 use Rattle.link.proofs.Decisions.{Decided, refuses, claims, decided}

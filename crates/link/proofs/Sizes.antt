@@ -38,15 +38,14 @@ use Rattle.session.specs.declared.Act.{Act}
 use Rattle.session.specs.declared.Act.TheVariants.{Refuse, Drop, Accept, Beat, Start, NoStart, Stop, Close, NoEnd, Claim, Append, Deliver, Single}
 use Rattle.session.specs.Rows.{no_session_id, no_message_id, no_row, message_at}
 use Rattle.session.specs.Rules.{reply_version, barred_by}
-use Rattle.session.specs.Decide.{place_of, need_of, held_of, share_of, first_of, due_number, sized, next_for, single_of, startable, starting_of, endable, hash_of, ending_of, control_of, content_of}
+use Rattle.session.specs.Decide.{is_hash, place_of, need_of, held_of, share_of, first_of, due_number, sized, next_for, single_of, startable, starting_of, endable, hash_of, ending_of, control_of, content_of}
 use Rattle.link.specs.declared.Link.{Link}
 use Rattle.link.specs.declared.Grant.{Grant}
 use Rattle.link.specs.State.{index_of, shares_in, guard_of, new_id}
 use Rattle.link.specs.Reply.{reply_header, reply_bytes, start_ack, start_nak, end_ack, end_nak, beat_ack, rpc, first_message_id, old_ack, opening_nak, granted_payload}
 use Rattle.link.specs.Call.{After, Wish, old, new, bad, wish_of, opens, admits, opening_by, said_of, decision_of, applied, frame_of, reading_of, call_of}
-use Rattle.link.specs.Book.{Ask, ask_of}
+use Rattle.link.specs.Book.{Ask}
 use Rattle.link.specs.Claim.{State, is_open}
-use Rattle.link.specs.Pages.{Sane}
 use Rattle.link.specs.Search.{Shaped}
 use Rattle.link.specs.Sizes.{Small, AnswersSmall}
 use Rattle.link.proofs.Decisions.{Decided, refuses, accepts, beats, starts, starts-not, stops, closes, ends_not, hands-over, claims, drops, appends, delivers, decided}
@@ -81,7 +80,7 @@ control_numbered r h said =
     either Numbered (eqb h.info 0x04) _ _
     (λ _.
     unless_elim Numbered (endable r h.service.0) (NoEnd false) _ (λ _. tt) λ _.
-    unless_elim Numbered (said.found && eqb said.hash (hash_of r h.service.0)) (NoEnd (eqb r.version 5)) _ (λ _. tt) λ _.
+    unless_elim Numbered (is_hash said.hash (hash_of r h.service.0)) (NoEnd (eqb r.version 5)) _ (λ _. tt) λ _.
     either Numbered (eqb h.service.0 0x07) Close Stop (λ _. tt) (λ _. tt)) λ _.
     either Numbered (eqb h.info 0x00) Beat Accept (λ _. tt) (λ _. tt)
 

@@ -2,8 +2,7 @@
 -- accepted, if chunk, offers and out fit, if the pool is untouched meanwhile, and if nothing else of that session comes between." One statement for every
 -- message that the sender accepts, in one frame or in several. Proved in proofs/Arrival.
 -- Assumes nothing.
-use Rattle.std.specs.Prelude.{ℕ, suc, ◌+◌, ◌^◌, ◌≤◌, ◌<◌, ◌≡◌, ◌⊎◌, true, not, List, [], ◌∷◌, ◌++◌, T, length, take}
-use Rattle.frame.specs.declared.Written.TheVariants.{Bytes}
+use Rattle.std.specs.Prelude.{ℕ, suc, ◌+◌, ◌^◌, ◌≤◌, ◌<◌, ◌≡◌, ◌⊎◌, true, not, List, [], ◌∷◌, ◌++◌, T, length, take, Ok}
 use Rattle.frame.specs.Write.{wrote}
 use Rattle.sender.specs.declared.Outgoing.{Outgoing}
 use Rattle.sender.specs.Sender.{frame_at, last_place, bytes_of, send_of}
@@ -17,7 +16,7 @@ pub record Fronts (o : Outgoing) (m : List ℕ) (k : ℕ) (q : Request) : Type 0
   pub buffer : List ℕ
   pub left : List ℕ
   pub n : ℕ
-  pub sent : send_of o k m buffer ≡ wrote (Bytes n) left
+  pub sent : send_of o k m buffer ≡ wrote (Ok n) left
   pub behind : List ℕ
   pub input : q.input ≡ take n left ++ behind
 

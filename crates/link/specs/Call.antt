@@ -4,7 +4,7 @@
 -- when it says." And the second: "Frames, control payloads, negotiation, replies and joined messages are those of the SmartDeviceLink protocol as document
 -- 01 fixes it."
 -- Assumes nothing.
-use Rattle.std.specs.Prelude.{ℕ, ◌+◌, ◌-◌, Bool, true, false, ◌&&◌, not, List, [], eqb, ltb, leb, length, get_or, take}
+use Rattle.std.specs.Prelude.{ℕ, ◌+◌, ◌-◌, Bool, true, false, ◌&&◌, not, List, [], eqb, ltb, leb, length, get_or, take, Option, Some, None, Result, Ok, Err}
 use Rattle.numbers.specs.Bytes.{pick, unless, part, laid}
 use Rattle.numbers.specs.Numbers.{value_be}
 use Rattle.frame.specs.declared.Header.{Header}
@@ -13,12 +13,10 @@ use Rattle.frame.specs.declared.Extent.{Extent}
 use Rattle.frame.specs.declared.Reading.{Reading}
 use Rattle.frame.specs.declared.Reading.TheVariants as reading
 use Rattle.frame.specs.Read.{read_of}
-use Rattle.payload.specs.declared.Payload.{Payload}
-use Rattle.payload.specs.declared.Payload.TheVariants as bson
+use Rattle.payload.specs.declared.Span.{Span}
+use Rattle.payload.specs.declared.Tags.{Tags}
 use Rattle.payload.specs.declared.version.Version.{Version}
-use Rattle.payload.specs.declared.version.VersionText.{VersionText}
-use Rattle.payload.specs.declared.version.VersionText.TheVariants as text
-use Rattle.payload.specs.Tags.{hash_id, protocol_version}
+use Rattle.payload.specs.Tags.{hash_id, protocol_version, bytes_in}
 use Rattle.payload.specs.Walk.{payload_of}
 use Rattle.payload.specs.Version.{version_of, lesser_of}
 use Rattle.payload.specs.Reply.{nak_payload}
@@ -57,14 +55,18 @@ pub data Wish : Type 0 where
   bad : Wish
 
 -- "or one below 5.0.0"; "bad version string"
-abbrev pub wish_of_text : VersionText → Wish
-wish_of_text (text.Good v) = pick (ltb v.major 5) old (new v)
-wish_of_text text.Bad = bad
+abbrev pub wish_of_text : Option Version → Wish
+wish_of_text (Some v) = pick (ltb v.major 5) old (new v)
+wish_of_text None = bad
 
 -- "or no protocolVersion"; "an unreadable payload": "On service frames 30 to 34 lead to the NAKs above."
-abbrev pub wish_of_payload : List ℕ → Payload → Wish
-wish_of_payload p (bson.Accepted t) = unless t.version.found old (wish_of_text (version_of (part p t.version.at t.version.length)))
-wish_of_payload p (bson.Refused n) = bad
+abbrev pub wish_of_tag : List ℕ → Option Span → Wish
+wish_of_tag p None = old
+wish_of_tag p (Some at) = wish_of_text (version_of (bytes_in p at))
+
+abbrev pub wish_of_payload : List ℕ → Result Tags ℕ → Wish
+wish_of_payload p (Ok t) = wish_of_tag p t.version
+wish_of_payload p (Err n) = bad
 
 -- "If M is below 5, or there is no payload, or no protocolVersion, or one below 5.0.0"
 unfoldable pub wish_of : ℕ → List ℕ → Wish
@@ -104,12 +106,12 @@ module _ (l : Link) (p o : List ℕ) (consumed : ℕ) (g : Grant) where
 -- ---- in a session
 
 -- what a control frame's payload says of a hash: "(version 5: hashId; below: exactly 4 raw bytes)". Below 5 any payload is readable
-abbrev pub said_by : Payload → Said
-said_by (bson.Accepted t) = record { readable = true; found = t.hash.found; hash = t.hash.value }
-said_by (bson.Refused n) = record { readable = false; found = false; hash = 0 }
+abbrev pub said_by : Result Tags ℕ → Said
+said_by (Ok t) = record { readable = true; hash = t.hash }
+said_by (Err n) = record { readable = false; hash = None }
 
 unfoldable pub said_of : Row → List ℕ → Said
-said_of r p = pick (eqb r.version 5) (said_by (payload_of p)) (record { readable = true; found = eqb (length p) 4; hash = value_be (part p 0 4) })
+said_of r p = pick (eqb r.version 5) (said_by (payload_of p)) (record { readable = true; hash = unless (eqb (length p) 4) None (Some (value_be (part p 0 4))) })
 
 -- the decision on a frame of row i: 13 to 17, then a control frame or content; of a First Frame's payload "total, then count"
 unfoldable pub decision_of : Link → ℕ → Header → List ℕ → ℕ → Act

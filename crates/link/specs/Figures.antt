@@ -1,15 +1,13 @@
 -- Document 01's marked cases, all of them, and those of document 02's A2, as one list: what the definitions say, beside what the papers say, both as numbers.
 -- Proved in proofs/Figures. (frame and payload have further worked cases of their own.)
 -- Assumes nothing.
-use Rattle.std.specs.Prelude.{ℕ, ◌-◌, ◌*◌, List, [], ◌∷◌, ◌++◌, map, ◌≡◌, length, take, replicate}
+use Rattle.std.specs.Prelude.{ℕ, ◌-◌, ◌*◌, List, [], ◌∷◌, ◌++◌, map, ◌≡◌, length, take, replicate, Option, Some, None}
 use Rattle.numbers.specs.Bytes.{part}
 use Rattle.numbers.specs.Numbers.{value_be, bytes_be}
 use Rattle.frame.specs.declared.Reading.{Reading}
 use Rattle.frame.specs.declared.Reading.TheVariants as reading
 use Rattle.frame.specs.Read.{read_of}
 use Rattle.payload.specs.declared.version.Version.{Version}
-use Rattle.payload.specs.declared.version.VersionText.{VersionText}
-use Rattle.payload.specs.declared.version.VersionText.TheVariants as text
 use Rattle.payload.specs.Tags.{protocol_version}
 use Rattle.payload.specs.Version.{version_of, version_text}
 use Rattle.payload.specs.Reply.{document, string_element, ack_payload, nak_payload}
@@ -97,9 +95,9 @@ announces s (reading.Frame h e) =
     h.version ∷ h.kind ∷ value_be (part payload 0 4) ∷ value_be (part payload 4 4) ∷ need_of (value_be (part payload 0 4)) ∷ []
 
 -- a version string: its three parts, or nothing
-abbrev parts : VersionText → List ℕ
-parts (text.Good v) = v.major ∷ v.minor ∷ v.patch ∷ []
-parts text.Bad = []
+abbrev parts : Option Version → List ℕ
+parts (Some v) = v.major ∷ v.minor ∷ v.patch ∷ []
+parts None = []
 
 abbrev announcement : List ℕ
 announcement = 0x52 ∷ 0x07 ∷ 0 ∷ 0x01 ∷ 0 ∷ 0 ∷ 0 ∷ 0x08 ∷ 0 ∷ 0 ∷ 0 ∷ 0x07 ∷ 0 ∷ 0 ∷ 0x02 ∷ 0x58 ∷ 0 ∷ 0 ∷ 0 ∷ 0x02 ∷ []

@@ -1,16 +1,13 @@
 -- What is written is read back, through the link: every reply of a call. And each pair of writer and reader by name, in one place. The user's second demand:
 -- "What you write is read back the same, save version 1's missing message id." Proved in proofs/ReadBack.
 -- Assumes nothing.
-use Rattle.std.specs.Prelude.{ℕ, ◌^◌, ◌≤◌, ◌<◌, min, ◌≡◌, Bool, List, [], eqb, length, get_or, take}
+use Rattle.std.specs.Prelude.{ℕ, ◌^◌, ◌≤◌, ◌<◌, min, ◌≡◌, List, [], eqb, length, get_or, take, Ok}
 use Rattle.std.proofs.Math.Option.{Option, none, some}
-use Rattle.lines.specs.declared.Decoded.TheVariants as Decoded
-use Rattle.lines.specs.declared.Number.TheVariants as Number
 use Rattle.lines.specs.Hex.{decoded, decode_of, hex_of}
 use Rattle.lines.specs.Decimal.{number_of, decimal_of}
 use Rattle.numbers.specs.Bytes.{pick, unless, laid, AreBytes}
 use Rattle.numbers.specs.Numbers.{value_le, bytes_le, value_be, bytes_be}
 use Rattle.frame.specs.declared.Header.{Header}
-use Rattle.frame.specs.declared.Extent.{Extent}
 use Rattle.frame.specs.declared.ServiceType.{ServiceType}
 use Rattle.frame.specs.declared.SessionId.{SessionId}
 use Rattle.frame.specs.declared.MessageId.{MessageId}
@@ -19,7 +16,6 @@ use Rattle.frame.specs.declared.Reading.TheVariants as reading
 use Rattle.frame.specs.Read.{read_of}
 use Rattle.frame.specs.ReadBack.{as_read, payload_part, ReadsAs, FrameReadBack, HeaderReadBack, WrittenAgain}
 use Rattle.sender.specs.ReadBack.{SentReadBack}
-use Rattle.payload.specs.declared.Payload.TheVariants.{Accepted}
 use Rattle.payload.specs.declared.version.Version.{Version}
 use Rattle.payload.specs.Tags.{protocol_version, hash_id}
 use Rattle.payload.specs.Walk.{payload_of}
@@ -53,7 +49,7 @@ pub data Carried : Type 0 where
 abbrev pub Says : Carried → List ℕ → Type 0
 Says empty p = p ≡ []
 Says (hash n) p = (length p ≡ 4) × (value_be p ≡ n)
-Says (granted n mtu) p = payload_of p ≡ Accepted (grant_tags n mtu)
+Says (granted n mtu) p = payload_of p ≡ Ok (grant_tags n mtu)
 Says (settled n mtu v) p = SaysAck n mtu v p
 Says (rejecting name) p = SaysNak name p
 
@@ -156,10 +152,10 @@ NumberWrittenAgain = (bs : List ℕ) → AreBytes bs → (bytes_le (length bs) (
 
 -- bytes as hexadecimal text, and a number of 64 bits as decimal text
 abbrev pub HexReadBack : Type 0
-HexReadBack = (bytes out : List ℕ) → AreBytes bytes → length bytes ≤ length out → decode_of (hex_of bytes) out ≡ decoded (Decoded.Bytes (length bytes)) (laid bytes out)
+HexReadBack = (bytes out : List ℕ) → AreBytes bytes → length bytes ≤ length out → decode_of (hex_of bytes) out ≡ decoded (Ok (length bytes)) (laid bytes out)
 
 abbrev pub DecimalReadBack : Type 0
-DecimalReadBack = (n : ℕ) → n < 2 ^ 64 → number_of (decimal_of n) ≡ Number.Value n
+DecimalReadBack = (n : ℕ) → n < 2 ^ 64 → number_of (decimal_of n) ≡ Ok n
 
 -- all of them; the C functions are in tilambok/specs/ReadBack
 pub record ReadBack : Type 0 where

@@ -2,11 +2,13 @@
 // Here stand its state and what a call brings and answers; the definitions in specs/ say what a call does.
 #![tactic(auto)]
 
+use figures::refusal::Refusal;
 use frame::ServiceType;
 use payload::version::Version;
 use session::Row;
 
-// The state, as the definitions speak of it. In code it lies in bytes of the caller's, and no function makes this struct: `link_of` (state/specs/Layout) reads it off them.
+// The state, as the definitions speak of it. In code it lies in bytes of the caller's, and no function makes this struct: `link_of` (state/specs/Layout)
+// reads it off them.
 #[derive(Clone, Copy)]
 pub struct Link {
     // the module's own version
@@ -26,13 +28,13 @@ pub struct Grant {
     pub hash: u32,
 }
 
-// What a call answers. The first number of an accepted call is the bytes consumed, the last the bytes at the front of out.
+// What a call answers: document 01's seven answers, so no Result. The first number of an accepted call is the bytes consumed, the last the bytes at the front
+// of out.
 #[derive(Clone, Copy)]
 pub enum Answer {
     // the bytes needed in all
     Short(usize),
-    // document 01's number
-    Refused(u8),
+    Refused(Refusal),
     // a reply: an ACK, a NAK, a Heartbeat ACK
     Acked(usize, usize),
     Nacked(usize, usize),

@@ -1,16 +1,16 @@
 -- Laws of the definitions: the next place, one call more and none any more, the two stretches of a script, and a number and a newline as a text. By the laws of
 -- take and drop. Assumes nothing.
-use Rattle.std.proofs.Common.{◌≡◌, ℕ, suc, ◌+◌, ◌-◌, ◌^◌, ◌<◌, ◌≤◌, min, ltb, List, [], ◌∷◌, ◌++◌, length, take, drop, replicate, sym, ap, ◌∙◌, arith, length-append, length-drop, take_all}
+use Rattle.std.proofs.Common.{◌≡◌, ℕ, suc, ◌+◌, ◌-◌, ◌^◌, ◌<◌, ◌≤◌, min, ltb, List, [], ◌∷◌, ◌++◌, length, take, drop, sym, ap, ◌∙◌, arith, length-append, length-drop, take_all}
 use Rattle.numbers.specs.Bytes.{part}
 use Rattle.numbers.proofs.Choices.{either}
 use Rattle.lines.specs.Decimal.{decimal_of}
 use Rattle.lines.proofs.Digits.{width_most}
-use Rattle.text.proofs.Lists.{take_min, drop_min}
+use Rattle.std.proofs.lemmas.List.{take_min}
+use Rattle.text.proofs.Lists.{drop_min}
 use Rattle.text.specs.declared.Text.{Text}
 use Rattle.text.specs.Said.{said, Started, Longer}
-use Rattle.link.specs.declared.Grant.{Grant}
-use Rattle.state.specs.Calls.{call_in, Told, told_of}
-use Rattle.pace.specs.Pace.{counted_of, offered, behind_of, next_of, places_in, Left, left, counting, after_call, run_from, beginning, longest, number_at, size_at, opening, again, script_of, line_of, empty_buffer, empty_state, answer_of}
+use Rattle.state.specs.Calls.{call_in, told_of}
+use Rattle.pace.specs.Pace.{offered, behind_of, next_of, places_in, Left, left, counting, after_call, run_from, beginning, longest, number_at, size_at, opening, again, script_of, line_of}
 
 -- ---- places
 
@@ -19,32 +19,25 @@ next_within at size n = either (λ p. p ≤ n) (ltb (behind_of at size n) n) (be
 
 -- ---- call after call
 
--- what one call leaves, as the code has it
-pub call_taken : {t : Told} {q : List ℕ} {n : ℕ} {g : Grant} (places : List ℕ) (at count : ℕ) (state pool out : List ℕ)
-    → g ≡ offered → q ≡ drop at places → t ≡ told_of (call_in state pool q out g) → n ≡ counted_of count t.values
-    → left n t.state t.pool t.out ≡ after_call places at (left count state pool out)
-call_taken {t} {q} places at count state pool out offer bytes e z =
-    let made : List ℕ → Grant → Told = λ s x. told_of (call_in state pool s out x) in
-    ap (λ (k : ℕ). left k t.state t.pool t.out) z
-    ∙ ap (counting count) (e ∙ ap (made q) offer ∙ ap (λ (s : List ℕ). made s offered) bytes)
+-- what one call leaves, with the bytes that the code lends
+pub call_taken : {l' : Left} {q : List ℕ} (places : List ℕ) (at : ℕ) (l : Left)
+    → l' ≡ counting l.accepted (told_of (call_in l.state l.pool q l.out offered)) → q ≡ drop at places → l' ≡ after_call places at l
+call_taken places at l e bytes = e ∙ ap (λ (s : List ℕ). counting l.accepted (told_of (call_in l.state l.pool s l.out offered))) bytes
 
-module _ (places : List ℕ) (size at calls : ℕ) (l : Left) where
+module _ (places : List ℕ) (size at : ℕ) (l : Left) {calls : ℕ} where
   -- one call more
-  pub run_turn : {at' : ℕ} {l' : Left} → 0 < calls → at' ≡ next_of at size (length places) → l' ≡ after_call places at l
-      → run_from (calls - 1) places size at' l' ≡ run_from calls places size at l
+  pub run_turn : {rest at' : ℕ} {l' : Left} → calls ≡ suc rest → at' ≡ next_of at size (length places) → l' ≡ after_call places at l
+      → run_from rest places size at' l' ≡ run_from calls places size at l
   unfolding run_from
-  run_turn {at'} {l'} h e f =
-      let z : calls ≡ suc (calls - 1) = omega (arith, h) in
-      ap (λ (i : ℕ). run_from (calls - 1) places size i l') e
-      ∙ ap (run_from (calls - 1) places size (next_of at size (length places))) f
+  run_turn {rest} {at'} {l'} z e f =
+      ap (λ (i : ℕ). run_from rest places size i l') e
+      ∙ ap (run_from rest places size (next_of at size (length places))) f
       ∙ sym (ap (λ (k : ℕ). run_from k places size at l) z)
 
   -- none any more
-  pub run_over : calls ≤ 0 → l ≡ run_from calls places size at l
+  pub run_over : calls ≡ 0 → l ≡ run_from calls places size at l
   unfolding run_from
-  run_over h =
-      let z : calls ≡ 0 = omega (arith, h) in
-      sym (ap (λ (k : ℕ). run_from k places size at l) z)
+  run_over z = sym (ap (λ (k : ℕ). run_from k places size at l) z)
 
 -- ---- a script
 
@@ -62,7 +55,7 @@ same_run a b c d = cc
 -- both runs, as the code makes them: its numbers, its three places and what each run left
 module _ (script : List ℕ) {size f first g rest calls : ℕ} (is-size : size ≡ number_at script 0) (is_f : f ≡ number_at script 4) (is-first : first ≡ min f longest)
     (is-g : g ≡ number_at script 8) (is-rest : rest ≡ min g longest) (is-calls : calls ≡ number_at script 12)
-    {a b e : ℕ} (is-a : a ≡ min 16 (length script)) (is_b : b ≡ min (a + first) (length script)) (is-e : e ≡ min (b + rest) (length script)) where
+    {a b e : ℕ} (is-a : a ≡ min (length script) 16) (is_b : b ≡ min (a + first) (length script)) (is-e : e ≡ min (b + rest) (length script)) where
   first_is : first ≡ size_at script 4
   first_is = is-first ∙ ap (λ (k : ℕ). min k longest) is_f
 
@@ -70,7 +63,7 @@ module _ (script : List ℕ) {size f first g rest calls : ℕ} (is-size : size �
   rest_is = is-rest ∙ ap (λ (k : ℕ). min k longest) is-g
 
   opening_is : take (b - a) (drop a script) ≡ opening script
-  opening_is = stretch_is script 16 first is-a is_b ∙ ap (part script 16) first_is
+  opening_is = stretch_is script 16 first (omega (arith, is-a)) is_b ∙ ap (part script 16) first_is
 
   again_is : take (e - b) (drop b script) ≡ again script
   again_is =
@@ -78,14 +71,14 @@ module _ (script : List ℕ) {size f first g rest calls : ℕ} (is-size : size �
       ∙ ap (λ (k : ℕ). part script (16 + k) rest) first_is
       ∙ ap (part script (16 + size_at script 4)) rest_is
 
-  pub script_served : (state pool out : List ℕ) {count : ℕ} {begun : List ℕ} {l l₂ : Left} → begun ≡ beginning state → count ≡ places_in first size
-      → l ≡ run_from count (take (b - a) (drop a script)) size 0 (left 0 begun pool out)
+  pub script_served : (state pool out : List ℕ) {count : ℕ} {begun l l₂ : Left} → begun ≡ left 0 (beginning state) pool out → count ≡ places_in first size
+      → l ≡ run_from count (take (b - a) (drop a script)) size 0 begun
       → l₂ ≡ run_from calls (take (e - b) (drop b script)) size 0 l
       → l₂ ≡ script_of script state pool out
   unfolding script_of
   script_served state pool out is-begun is-count once more =
       let count_is = is-count ∙ ap (λ (k : ℕ). places_in k size) first_is ∙ ap (places_in (size_at script 4)) is-size in
-      let one = once ∙ same_run count_is opening_is is-size (ap (λ (s : List ℕ). left 0 s pool out) is-begun) in
+      let one = once ∙ same_run count_is opening_is is-size is-begun in
       more ∙ same_run is-calls again_is is-size one
 
 -- ---- a number and a newline
@@ -98,11 +91,3 @@ number_said n {t} {u} h begun digits ended =
     let d : said u ≡ decimal_of n = digits.says ∙ ap (λ (s : List ℕ). take 4096 (s ++ decimal_of n)) none ∙ take_all 4096 (decimal_of n) (omega (arith, w)) in
     let m : length (decimal_of n ++ 10 ∷ []) ≤ 4096 = omega (arith, w, length-append (decimal_of n) (10 ∷ [])) in
     ended.says ∙ ap (λ (s : List ℕ). take 4096 (s ++ 10 ∷ [])) d ∙ take_all 4096 (decimal_of n ++ 10 ∷ []) m
-
--- ---- the program
-
--- the script's number as a line, state and buffers as the code has them
-pub answered_is : (script : List ℕ) {l : Left} {chars : List ℕ} → l ≡ script_of script (replicate 2688 0) (replicate 65536 0) (replicate 65536 0)
-    → chars ≡ line_of l.accepted → chars ≡ answer_of script
-unfolding empty_state empty_buffer
-answered_is script e f = f ∙ ap (λ (l : Left). line_of l.accepted) e

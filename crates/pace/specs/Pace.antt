@@ -8,6 +8,7 @@ use Rattle.payload.specs.declared.version.Version.{Version}
 use Rattle.link.specs.declared.Grant.{Grant}
 use Rattle.link.specs.Values.{Values, accepted}
 use Rattle.state.specs.Calls.{call_in, Told, told_of, create_in}
+use Rattle.pace.specs.declared.HeadUnit.{HeadUnit}
 
 -- ---- one call
 
@@ -44,6 +45,9 @@ pub record Left : Type 0 where
 
 abbrev pub left : ℕ → List ℕ → List ℕ → List ℕ → Left
 left n state pool out = record { accepted = n; state = state; pool = pool; out = out }
+
+abbrev pub left_in : HeadUnit → Left
+left_in u = left u.accepted u.state u.pool u.out
 
 -- what one more call leaves
 abbrev pub counting : ℕ → Told → Left

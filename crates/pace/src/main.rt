@@ -9,7 +9,8 @@ ghost use Rattle.std.specs.Prelude.{◌≡◌, ℕ, take};
 ghost use Rattle.std.specs.Io.KnownBytes.{Appends};
 ghost use Rattle.text.specs.Said.{said};
 ghost use Rattle.link.specs.Values.{values_of, accepted};
-ghost use Rattle.pace.specs.Pace.{counted_of, offered, behind_of, next_of, places_in, left as left_by, run_from, beginning, script_of, line_of, answer_of};
+ghost use Rattle.state.specs.Calls.{call_in, told_of};
+ghost use Rattle.pace.specs.Pace.{counted_of, offered, behind_of, next_of, places_in, left, left_in, counting, run_from, beginning, script_of, line_of, answer_of};
 
 use link::{Answer, Grant};
 use payload::version::Version;
@@ -28,34 +29,17 @@ const OUT: usize = 65536;
 fn behind(at: usize, size: usize, length: usize) -> usize
     ensures { result ≡ behind_of at size length }
 {
-    if length <= at {
-        return length;
-    }
-    if size == 0 {
-        return at + 1;
-    }
-    if length - at <= size {
-        return length;
-    }
-    at + size
+    at.saturating_add(size.max(1)).min(length)
 }
 
 // Neither too short nor refused.
 fn is_accepted(answer: Answer) -> bool
     ensures { result ≡ accepted (values_of answer) }
 {
-    match answer {
-        Answer::Short(_) => false,
-        Answer::Refused(_) => false,
-        Answer::Acked(_, _) => true,
-        Answer::Nacked(_, _) => true,
-        Answer::Beat(_, _) => true,
-        Answer::Accepted(_) => true,
-        Answer::Delivered(_, _, _) => true,
-    }
+    !matches!(answer, Answer::Short(_) | Answer::Refused(_))
 }
 
-// What each call offers.
+// What each call offers: not the bench's offer, whose room would end sooner.
 fn offer() -> Grant
     ensures { result ≡ offered }
 {
@@ -69,7 +53,7 @@ fn offer() -> Grant
 fn counted(accepted: u64, answer: Answer) -> u64
     ensures { result ≡ counted_of accepted (values_of answer) }
 {
-    std::num::wrapping_add_u64(accepted, is_accepted(answer) as u64)
+    accepted.wrapping_add(u64::from(is_accepted(answer)))
 }
 
 // The place behind one, and the first again behind the last.
@@ -80,70 +64,81 @@ fn next(at: usize, size: usize, length: usize) -> usize
     if place < length { place } else { 0 }
 }
 
-// So many calls, with the front of one place after the other. What comes back is how many calls were accepted by then.
-fn go_over(
-    before: u64,
-    calls: usize,
-    places: &[u8],
-    size: usize,
-    link: &mut [u8],
-    pool: &mut [u8],
-    out: &mut [u8],
-) -> u64
-    ensures { left_by result link.new pool.new out.new ≡ run_from calls places.now size 0 (left_by before link.old pool.old out.old) }
-{
-    let mut accepted = before;
-    let mut left = calls;
-    let mut at: usize = 0;
-    while 0 < left {
-        let answer = headunit::call(link, pool, &places[at..], out, offer());
-        accepted = counted(accepted, answer);
-        at = next(at, size, places.len());
-        left -= 1;
-    }
-    accepted
-}
-
 // How many whole places a length has.
 fn count_places(length: usize, size: usize) -> usize
     ensures { result ≡ places_in length size }
 {
-    if size == 0 {
-        return 0;
+    length.checked_div(size).unwrap_or(0)
+}
+
+// The head unit that is called: its link's state and buffers, and how many calls were accepted.
+#[derive(Drop)]
+struct HeadUnit {
+    state: [u8; state::LENGTH],
+    pool: [u8; POOL],
+    out: [u8; OUT],
+    accepted: u64,
+}
+
+impl HeadUnit {
+    // The link before the first call. The bench's `start` makes this call too; to share it, this program would have to know the bench.
+    fn start(&mut self)
+        ensures { left_in self.new ≡ left 0 (beginning self.old.state) self.old.pool self.old.out }
+    {
+        let version = Version {
+            major: 5,
+            minor: 4,
+            patch: 1,
+        };
+        let _ = headunit::create(&mut self.state, version, 131084);
+        self.accepted = 0;
     }
-    length / size
-}
 
-// The link before the first call.
-fn start(link: &mut [u8])
-    ensures { link.new ≡ beginning link.old }
-{
-    let version = Version {
-        major: 5,
-        minor: 4,
-        patch: 1,
-    };
-    headunit::create(link, version, 131084);
-}
+    // One call.
+    fn call(&mut self, bytes: &[u8])
+        ensures { left_in self.new ≡ counting self.old.accepted (told_of (call_in self.old.state self.old.pool bytes.now self.old.out offered)) }
+    {
+        let answer = headunit::call(
+            &mut self.state,
+            &mut self.pool,
+            bytes,
+            &mut self.out,
+            offer(),
+        );
+        self.accepted = counted(self.accepted, answer);
+    }
 
-// The beginning once, then as many calls with the rest as asked for.
-fn serve(script: &[u8], link: &mut [u8], pool: &mut [u8], out: &mut [u8]) -> u64
-    ensures { left_by result link.new pool.new out.new ≡ script_of script.now link.old pool.old out.old }
-{
-    let size = numbers::be4(script, 0) as usize;
-    let first = numbers::least(numbers::be4(script, 4) as usize, LONGEST);
-    let again = numbers::least(numbers::be4(script, 8) as usize, LONGEST);
-    let calls = numbers::be4(script, 12) as usize;
-    let start_at = numbers::least(16, script.len());
-    let middle = numbers::least(start_at + first, script.len());
-    let end = numbers::least(middle + again, script.len());
-    let opening = &script[start_at..middle];
-    start(link);
-    let begun = go_over(0, count_places(first, size), opening, size, link, pool, out);
-    go_over(begun, calls, &script[middle..end], size, link, pool, out)
+    // So many calls, with the front of one place after the other. The place goes on by hand: each call is lent all bytes from there on (`run_from`).
+    fn go_over(&mut self, calls: usize, places: &[u8], size: usize)
+        ensures { left_in self.new ≡ run_from calls places.now size 0 (left_in self.old) }
+    {
+        let mut at: usize = 0;
+        for _ in 0..calls {
+            self.call(&places[at..]);
+            at = next(at, size, places.len());
+        }
+    }
+
+    // The beginning once, then as many calls with the rest as asked for.
+    fn serve(&mut self, script: &[u8])
+        ensures { left_in self.new ≡ script_of script.now self.old.state self.old.pool self.old.out }
+    {
+        // std has no `From<u32>` for usize: these widen by `as`
+        let size = numbers::be4(script, 0) as usize;
+        let first = (numbers::be4(script, 4) as usize).min(LONGEST);
+        let again = (numbers::be4(script, 8) as usize).min(LONGEST);
+        let calls = numbers::be4(script, 12) as usize;
+        let start = script.len().min(16);
+        let middle = (start + first).min(script.len());
+        let end = (middle + again).min(script.len());
+        self.start();
+        self.go_over(count_places(first, size), &script[start..middle], size);
+        self.go_over(calls, &script[middle..end], size);
+    }
 }
 
 // A number and a newline.
+#[tactic(auto, using(crate::proofs::Laws::number_said))]
 fn spell(number: u64) -> Text
     ensures { said result ≡ line_of number }
 {
@@ -151,13 +146,18 @@ fn spell(number: u64) -> Text
 }
 
 // What is written for a script.
+#[tactic(auto, unfolding(crate::specs::Pace::empty_state, crate::specs::Pace::empty_buffer))]
 fn answer(script: &[u8]) -> Text
     ensures { said result ≡ answer_of script.now }
 {
-    let mut link = [0u8; state::LENGTH];
-    let mut pool = [0u8; POOL];
-    let mut out = [0u8; OUT];
-    spell(serve(script, &mut link, &mut pool, &mut out))
+    let mut unit = HeadUnit {
+        state: [0u8; state::LENGTH],
+        pool: [0u8; POOL],
+        out: [0u8; OUT],
+        accepted: 0,
+    };
+    unit.serve(script);
+    spell(unit.accepted)
 }
 
 // Writes a text: what is taken of it stands at its front.

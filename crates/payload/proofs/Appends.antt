@@ -1,19 +1,18 @@
--- Bytes put into a buffer piece by piece: each small writer's step, two steps after each other, and the answer of a public writer.
+-- Bytes put into a buffer piece by piece: a step, two steps after each other, and the answer of a public writer.
 -- By the laws of take and drop. Assumes nothing.
 use Prim.Native.Nat.{ℕ, ◌+◌, ◌-◌, ◌≤◌, ◌<◌}
-use mathlib.Core.Path.{◌≡◌, refl, ap, ◌∙◌, sym}
-use mathlib.Core.List.{List, [], ◌∷◌, ◌++◌, append_assoc, append-nil}
-use native.Mathlib.Numerals.{add-one}
+use mathlib.Core.Path.{◌≡◌, ap, ◌∙◌, sym}
+use mathlib.Core.List.{List, [], ◌++◌, append_assoc, append-nil}
 use native.Mathlib.Omega.{arith}
 use borrow.Author.Tests.{le-leb, lt-leb}
 use borrow.Rule.Slice.PartMut.{put_mid}
-use lib.ListN.{length, take, drop, set, length-append, length-take, drop_of_length-le}
-use lib.Seq.{length-take-le, take_all, take_at, drop_at, drop-drop, set_split, paste}
+use lib.ListN.{length, take, drop, length-append, length-take, drop_of_length-le}
+use lib.Seq.{length-take-le, take_all, take_at, drop_at, drop-drop, paste}
+use Rattle.std.specs.Prelude.{Err}
 use Rattle.numbers.specs.Bytes.{part, put_at, laid}
 use Rattle.numbers.proofs.Laws.{put_fits}
-use Rattle.payload.specs.Append.{placed, Appended, wrote, put_of}
+use Rattle.payload.specs.Append.{Appended, wrote, put_of}
 use Rattle.payload.specs.Version.{saying_of}
-use Rattle.payload.specs.declared.append.Written.TheVariants.{Bytes, Refused}
 use Rattle.payload.specs.declared.version.Version.{Version}
 
 -- one more piece, right behind
@@ -32,19 +31,9 @@ module _ (a b : List ℕ) {at n m : ℕ} {o p q : List ℕ} (room : at + length 
         puts = f.puts ∙ rw (near, far, append_assoc, append_assoc);
       }
 
--- the same, by where the first piece ends
-pub then_put : {a b : List ℕ} {at n m : ℕ} {o p q : List ℕ} → n ≤ length o → Appended at a o n p → Appended n b p m q → Appended at (a ++ b) o m q
-then_put {a} {b} h e f = more a b (omega arith) e f
-
 -- the same bytes under another name
 pub renamed : {a b : List ℕ} {at m : ℕ} {o q : List ℕ} → a ≡ b → Appended at a o m q → Appended at b o m q
 renamed e f = rw e at f
-
--- one byte
-pub byte_put : (b at : ℕ) (o : List ℕ) → at + 1 ≤ length o → Appended at (b ∷ []) o (at + 1) (set o at b)
-byte_put b at o h =
-    let e : set o at b ≡ take at o ++ b ∷ drop (at + 1) o = rw add-one (set_split o at b (omega arith)) in
-    record { ends = refl; puts = e }
 
 -- a number of w bytes
 pub number_put : (w : ℕ) (b : List ℕ) (at : ℕ) (o q : List ℕ) → length b ≡ w → at + w ≤ length o → q ≡ put_at o at w b → Appended at b o (at + w) q
@@ -61,20 +50,9 @@ part_put b at n o e f =
     let m : drop (length b) (part o at (length b)) ≡ [] = drop_of_length-le (part o at (length b)) {i = length b} (omega (arith, length-take (length b) (drop at o))) in
     record { ends = e; puts = rw (f, z, m, append-nil, drop-drop) }
 
--- what a public writer answers
-module _ (b o : List ℕ) (k : ℕ) (e : length b ≡ k) where
-  pub too_small : length o < k → wrote (Refused 11) o ≡ put_of b o
-  too_small h = rw (e, lt-leb k (length o) h)
-
-  pub all_put : {n m : ℕ} {q : List ℕ} → n ≡ k → k ≤ length o → Appended 0 b o m q → wrote (Bytes n) q ≡ put_of b o
-  all_put s h f =
-      let z : 0 + length b ≡ length b = omega arith in
-      let g : placed 0 b o ≡ laid b o = rw z in
-      rw (s, f.puts, g, e, le-leb k (length o) h)
-
--- and one whose bytes say a version
+-- what a public writer answers whose bytes say a version
 module _ (v : Version) (b o : List ℕ) where
-  pub out_of_range : v.major < 1 → wrote (Refused 10) o ≡ saying_of v b o
+  pub out_of_range : v.major < 1 → wrote (Err 10) o ≡ saying_of v b o
   out_of_range h = rw (lt-leb 1 v.major h)
 
   pub in_range_put : 1 ≤ v.major → put_of b o ≡ saying_of v b o

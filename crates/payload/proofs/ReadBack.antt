@@ -9,6 +9,7 @@ use lib.Dec.{eqb, leb}
 use lib.ListN.{length, take, drop, get_or, length-append}
 use lib.Seq.{take_at, drop_at, drop-drop, get_or_at, get_or-drop, take-append-add, append_snoc}
 use borrow.Author.Tests.{le-leb, leb-true, lt-ltb, eq-eqb, ne_eqb, not-true}
+use Rattle.std.specs.Prelude.{Some, Ok, Err}
 use Rattle.lines.specs.Place.{index_of}
 use Rattle.lines.proofs.Turns.{both}
 use Rattle.numbers.specs.Bytes.{part, laid}
@@ -23,12 +24,7 @@ use Rattle.payload.specs.Reply.{first_key, element_head, document, int32_element
 use Rattle.payload.specs.ReadBack.{IfWritten, VersionBack, TextBack, SaysAck, AckBack, ServiceAckBack, SaysNak, NakBack, rejected_of, NaksApart}
 use Rattle.payload.specs.declared.Tags.{Tags}
 use Rattle.payload.specs.declared.Tag.TheVariants.{ProtocolVersion, HashId, Mtu}
-use Rattle.payload.specs.declared.Skip.TheVariants.{To}
-use Rattle.payload.specs.declared.Walk.TheVariants.{Past}
-use Rattle.payload.specs.declared.Payload.TheVariants.{Accepted}
-use Rattle.payload.specs.declared.append.Written.TheVariants.{Bytes, Refused}
 use Rattle.payload.specs.declared.version.Version.{Version}
-use Rattle.payload.specs.declared.version.VersionText.TheVariants.{Good}
 use Rattle.payload.specs.declared.reply.Parameter.{Parameter}
 use Rattle.payload.specs.declared.reply.Parameter.TheVariants as parameter
 use Rattle.payload.proofs.Replies.{length_head, length_document, length_int32, length_string, length_grant}
@@ -91,8 +87,8 @@ module _ {before key after s : List ℕ} {kind at n end : ℕ} (w : Stands befor
       rw (w.is, past_type after, z) (take_at key (0 ∷ after) (length key) refl)
 
   -- of a type that is read and holds no document
-  plain_top : (nested : Nested) (t : Tags) {next : ℕ} → read_type kind ≡ true → clashes t (tag_of key) kind ≡ false → nests kind ≡ false → plain_of s v end kind ≡ To next
-      → element_of nested true s at end t ≡ Past next (with_tag s t (tag_of key) v)
+  plain_top : (nested : Nested) (t : Tags) {next : ℕ} → read_type kind ≡ true → clashes t (tag_of key) kind ≡ false → nests kind ≡ false → plain_of s v end kind ≡ Some next
+      → element_of nested true s at end t ≡ Ok (next, with_tag s t (tag_of key) v)
   unfolding head_of element_of
   plain_top nested t r c p e = rw (stop_here, type_is, key_is, r, lt-ltb (at + 1 + length key) end (omega (arith, w.within)), c, p, e)
 
@@ -103,8 +99,8 @@ number_first w x after h = rw (take_at (bytes_le w x) after w (length_le w x)) (
 -- an element at the top: where the reader goes on, and the value that it finds; first of a number of w bytes, whose type is known
 module _ (nested : Nested) (t : Tags) {before key s : List ℕ} {at end : ℕ} where
   number_read : (w x : ℕ) (after : List ℕ) (n : ℕ) {kind : ℕ} → Stands before key (bytes_le w x ++ after) s kind at (w + n) end → x < 256 ^ w → read_type kind ≡ true
-      → clashes t (tag_of key) kind ≡ false → nests kind ≡ false → ((v : ℕ) → w ≤ end - v → plain_of s v end kind ≡ To (v + w))
-      → (element_of nested true s at end t ≡ Past (at + 1 + length key + 1 + w) (with_tag s t (tag_of key) (at + 1 + length key + 1)))
+      → clashes t (tag_of key) kind ≡ false → nests kind ≡ false → ((v : ℕ) → w ≤ end - v → plain_of s v end kind ≡ Some (v + w))
+      → (element_of nested true s at end t ≡ Ok (at + 1 + length key + 1 + w, with_tag s t (tag_of key) (at + 1 + length key + 1)))
       × (get_or s at 0 ≡ kind) × (value_le (part s (at + 1 + length key + 1) w) ≡ x)
   number_read w x after n e h r c p g = (
     plain_top e nested t r c p (g (at + 1 + length key + 1) (omega (arith, e.within))),
@@ -114,7 +110,7 @@ module _ (nested : Nested) (t : Tags) {before key s : List ℕ} {at end : ℕ} w
 
   string_read : (text after : List ℕ) (n : ℕ) → Stands before key (bytes_le 4 (length text + 1) ++ (text ++ 0 ∷ after)) s 0x02 at (5 + length text + n) end → length text < 2 ^ 31
       → clashes t (tag_of key) 0x02 ≡ false
-      → (element_of nested true s at end t ≡ Past (at + 1 + length key + 1 + 4 + (length text + 1)) (with_tag s t (tag_of key) (at + 1 + length key + 1)))
+      → (element_of nested true s at end t ≡ Ok (at + 1 + length key + 1 + 4 + (length text + 1), with_tag s t (tag_of key) (at + 1 + length key + 1)))
       × (get_or s at 0 ≡ 0x02) × (value_le (part s (at + 1 + length key + 1) 4) ≡ length text + 1) × (part s (at + 1 + length key + 1 + 4) (length text) ≡ text)
   unfolding plain_of string_of
   string_read text after n e h c =
@@ -125,17 +121,17 @@ module _ (nested : Nested) (t : Tags) {before key s : List ℕ} {at end : ℕ} w
       let near : drop (v + 4) s ≡ text ++ 0 ∷ after = sym (drop-drop 4 v s) ∙ rw (value_is e) (drop_at b (text ++ 0 ∷ after) 4 lb) in
       let k : v + 4 + length text ≡ v + 3 + (length text + 1) = omega arith in
       let z : get_or s (v + 3 + (length text + 1)) 0 ≡ 0 = rw (← k, ← get_or-drop) (rw near (get_or_at text 0 after 0 (length text) refl)) in
-      let fits : plain_of s v end 0x02 ≡ To (v + 4 + (length text + 1)) = rw (x, le-leb 4 (end - v) (omega (arith, e.within)), le-leb 1 (length text + 1) (omega arith), le-leb (length text + 1) (end - v - 4) (omega (arith, e.within)), z) in
+      let fits : plain_of s v end 0x02 ≡ Some (v + 4 + (length text + 1)) = rw (x, le-leb 4 (end - v) (omega (arith, e.within)), le-leb 1 (length text + 1) (omega arith), le-leb (length text + 1) (end - v - 4) (omega (arith, e.within)), z) in
       (plain_top e nested t refl c refl fits, type_is e, x, rw near (take_at text (0 ∷ after) (length text) refl))
 
 -- the elements one after another, up to the document's last byte
 module _ (nested : Nested) (s : List ℕ) (end bound : ℕ) where
-  one_more : (at next kind : ℕ) (t u : Tags) → at < end → (kind ≡ 0 → ⊥) → get_or s at 0 ≡ kind → element_of nested true s at end t ≡ Past next u
+  one_more : (at next kind : ℕ) (t u : Tags) → at < end → (kind ≡ 0 → ⊥) → get_or s at 0 ≡ kind → element_of nested true s at end t ≡ Ok (next, u)
       → elements (suc bound) nested true s at end t ≡ elements bound nested true s next end u
   unfolding elements
   one_more at next kind t u h z g e = rw (lt-ltb at end h, g, ne_eqb kind 0 z, e)
 
-  no_more : (at : ℕ) (t : Tags) → at + 1 ≡ end → get_or s at 0 ≡ 0 → elements (suc bound) nested true s at end t ≡ Past end t
+  no_more : (at : ℕ) (t : Tags) → at + 1 ≡ end → get_or s at 0 ≡ 0 → elements (suc bound) nested true s at end t ≡ Ok (end, t)
   unfolding elements
   no_more at t h g = rw (lt-ltb at end (omega arith), g, eq-eqb (at + 1) end h)
 
@@ -208,7 +204,7 @@ module _ (h m : ℕ) (rest : List ℕ) (hash32 : h < 2 ^ 32) (mtu64 : m < 2 ^ 64
 
 -- a service's ACK says its hash and mtu, and nothing else
 module _ (h m : ℕ) (hash32 : h < 2 ^ 32) (mtu64 : m < 2 ^ 64) where
-  service_document : payload_of (document (grant_elements h m ++ [])) ≡ Accepted (grant_tags h m)
+  service_document : payload_of (document (grant_elements h m ++ [])) ≡ Ok (grant_tags h m)
   service_document =
       let e = grant_elements h m ++ [] in
       let size : length e ≡ 25 = length-append (grant_elements h m) [] ∙ omega (arith, length_grant h m) in
@@ -216,7 +212,7 @@ module _ (h m : ℕ) (hash32 : h < 2 ^ 32) (mtu64 : m < 2 ^ 64) where
       document_read e small 30 (omega arith)
       ∙ ap answer (grant_read h m [] hash32 mtu64 small 28 ∙ no_more (inner e small) (document e) (5 + length e) 27 29 (grant_tags h m) (omega arith) (last_byte e small 29 (omega arith)))
 
-  pub service_ack_read : payload_of (service_ack_payload h m) ≡ Accepted (grant_tags h m)
+  pub service_ack_read : payload_of (service_ack_payload h m) ≡ Ok (grant_tags h m)
   unfolding service_ack_payload
   service_ack_read = rw append-nil at service_document
 
@@ -237,7 +233,7 @@ module _ (h m : ℕ) (v : Version) (hash32 : h < 2 ^ 32) (mtu64 : m < 2 ^ 64) (m
   small : length e + 5 ≤ 1024
   small = omega (arith, size, version_most v major8 minor8 patch8)
 
-  string_here : (element_of (inner e small) true (document e) 29 (5 + length e) (grant_tags h m) ≡ Past (50 + (length text + 1)) (with_tag (document e) (grant_tags h m) ProtocolVersion 46))
+  string_here : (element_of (inner e small) true (document e) 29 (5 + length e) (grant_tags h m) ≡ Ok (50 + (length text + 1), with_tag (document e) (grant_tags h m) ProtocolVersion 46))
       × (get_or (document e) 29 0 ≡ 0x02) × (value_le (part (document e) 46 4) ≡ length text + 1) × (part (document e) 50 (length text) ≡ text)
   unfolding tag_of string_element
   string_here =
@@ -251,7 +247,7 @@ module _ (h m : ℕ) (v : Version) (hash32 : h < 2 ^ 32) (mtu64 : m < 2 ^ 64) (m
       let z : length text + 1 - 1 ≡ length text = omega arith in
       rw (p, z)
 
-  pub ack_read : payload_of (ack_payload h m v) ≡ Accepted (ack_tags h m v)
+  pub ack_read : payload_of (ack_payload h m v) ≡ Ok (ack_tags h m v)
   unfolding ack_payload
   ack_read =
       let s = document e in
@@ -264,18 +260,18 @@ module _ (h m : ℕ) (v : Version) (hash32 : h < 2 ^ 32) (mtu64 : m < 2 ^ 64) (m
       (grant_read h m string hash32 mtu64 small (suc (suc (suc (length e))))
       ∙ one_more n s end (suc (suc (length e))) 29 (50 + (length text + 1)) 0x02 (grant_tags h m) (with_tag s (grant_tags h m) ProtocolVersion 46) (omega (arith, size)) (λ k. omega arith) w.1 w.0
       ∙ no_more n s end (suc (length e)) (50 + (length text + 1)) (with_tag s (grant_tags h m) ProtocolVersion 46) (omega (arith, size)) (last_byte e small (50 + (length text + 1)) (omega (arith, size)))
-      ∙ ap (λ (t : Tags). Past end t) (tags_here w.2))
+      ∙ ap (λ (t : Tags). Ok (end, t)) (tags_here w.2))
 
   -- the string that the reader points at is the version's
   pub ack_text : part (ack_payload h m v) 50 (length (version_text v)) ≡ version_text v
   unfolding ack_payload
   ack_text = string_here.3
 
-  pub ack_version : 1 ≤ v.major → version_of (part (ack_payload h m v) 50 (length (version_text v))) ≡ Good v
+  pub ack_version : 1 ≤ v.major → version_of (part (ack_payload h m v) 50 (length (version_text v))) ≡ Some v
   ack_version one = ap version_of ack_text ∙ written_read v one major8 minor8 patch8
 
 -- a NAK says where rejectedParams stands, and nothing else; there stands the array of its name
-pub nak_read : (p : Parameter) → payload_of (nak_payload (name_of p)) ≡ Accepted (nak_tags (name_of p))
+pub nak_read : (p : Parameter) → payload_of (nak_payload (name_of p)) ≡ Ok (nak_tags (name_of p))
 unfolding tag_of index_of value_le bytes_le element_head document string_element array_element rejected_element nak_payload fixed_of boolean_of string_of plain_of head_of element_of elements document_of payload_of
 nak_read parameter.ProtocolVersion = refl
 nak_read parameter.HashId = refl
@@ -311,16 +307,16 @@ one_name_one_parameter parameter.HashId parameter.HashId e = refl
 -- ---- the statements of specs/ReadBack
 
 -- a refusal wrote nothing
-never : {X : Type 0} {k n : ℕ} {o q : List ℕ} → wrote (Refused k) o ≡ wrote (Bytes n) q → X
-never {k = k} {n = n} g = let a : Refused k ≡ Bytes n = ap (λ (w : Wrote). w.answer) g in absurd (let z : ◌≡◌ {A = ℕ} 0 1 = cc in omega arith)
+never : {X : Type 0} {k n : ℕ} {o q : List ℕ} → wrote (Err k) o ≡ wrote (Ok n) q → X
+never {k = k} {n = n} g = let a : Err k ≡ Ok n = ap (λ (w : Wrote). w.answer) g in absurd (let z : ◌≡◌ {A = ℕ} 0 1 = cc in omega arith)
 
 -- what a writer wrote, from its answer
 wrote_bytes : (b o : List ℕ) → IfWritten (put_of b o) (λ s. s ≡ b)
 wrote_bytes b o n q e =
     split (leb (length b) (length o))
     (λ t.
-    let g : wrote (Bytes (length b)) (laid b o) ≡ wrote (Bytes n) q = rw t at e in
-    let a : Bytes (length b) ≡ Bytes n = ap (λ (w : Wrote). w.answer) g in
+    let g : wrote (Ok (length b)) (laid b o) ≡ wrote (Ok n) q = rw t at e in
+    let a : Ok (length b) ≡ Ok n = ap (λ (w : Wrote). w.answer) g in
     let k : length b ≡ n = cc in
     let f : laid b o ≡ q = ap (λ (w : Wrote). w.out) g in
     rw (← k, ← f) (take_at b (drop (length b) o) (length b) refl))

@@ -1,20 +1,16 @@
--- Each element and payload that is written: how many bytes it has, and where it ends in the buffer; and a document, which stands there after its
--- pieces were put one behind the other. First document 01's marked payloads, by computation. Assumes nothing.
-use Prim.Native.Nat.{ℕ, ◌+◌, ◌-◌, ◌≤◌, ◌<◌}
+-- Each element and payload that is written: how many bytes it has. First document 01's marked payloads, by computation. Assumes nothing.
+use Prim.Native.Nat.{ℕ, ◌+◌, ◌≤◌, ◌<◌}
 use mathlib.Core.Path.{◌≡◌, refl, ◌∙◌}
-use mathlib.Core.List.{List, [], ◌∷◌, ◌++◌, append_assoc}
+use mathlib.Core.List.{List, [], ◌∷◌, ◌++◌}
 use native.Mathlib.Omega.{arith}
-use lib.ListN.{length, take, drop, length-append}
-use lib.Seq.{take_at}
+use lib.ListN.{length, length-append}
 use Rattle.numbers.specs.Numbers.{bytes_le}
 use Rattle.numbers.proofs.Laws.{length_le}
-use Rattle.payload.specs.Append.{Appended}
 use Rattle.payload.specs.Tags.{protocol_version, hash_id, mtu, rejected_params}
 use Rattle.lines.specs.Decimal.{digits_by, decimal_of}
 use Rattle.payload.specs.Version.{version, version_text}
 use Rattle.payload.specs.Reply.{first_key, element_head, document, int32_element, int64_element, string_element, array_element, grant_elements, rejected_element, ack_payload, service_ack_payload, nak_payload}
 use Rattle.payload.specs.declared.version.Version.{Version}
-use Rattle.payload.proofs.Appends.{then_put, renamed}
 use Rattle.payload.proofs.Versions.{version_most}
 
 -- "Payload for "5.4.1": `20 00 00 00 02`, "protocolVersion" and 0, `06 00 00 00`, "5.4.1", two zeros: 32 bytes."; the ACK's payload with it, for
@@ -48,11 +44,6 @@ module _ (elements : List ℕ) where
   pub length_document : length (document elements) ≡ length elements + 5
   unfolding document
   length_document = simp (length-append, length_le) (omega arith)
-
-  pub document_put : {at n₁ n₂ m : ℕ} {o p₁ p₂ q : List ℕ} (size : ℕ) → size ≡ 5 + length elements → n₂ ≤ length o
-      → Appended at (bytes_le 4 size) o n₁ p₁ → Appended n₁ elements p₁ n₂ p₂ → Appended n₂ (0 ∷ []) p₂ m q → Appended at (document elements) o m q
-  unfolding document
-  document_put size z room e₁ e₂ e₃ = renamed (append_assoc (bytes_le 4 (5 + length elements)) elements (0 ∷ [])) (then_put room (then_put (omega arith) (rw z at e₁) e₂) e₃)
 
 module _ (key : List ℕ) (x : ℕ) where
   pub length_int32 : length (int32_element key x) ≡ length key + 6
@@ -104,32 +95,6 @@ module _ (name : List ℕ) where
   pub length_nak : length (nak_payload name) ≡ 34 + length name
   unfolding nak_payload
   length_nak = omega (arith, length_document (rejected_element name), length_rejected)
-
--- where each piece ends, for `omega`, which finds the pieces by itself
-module _ (at n : ℕ) (o p : List ℕ) where
-  pub head_ends : (kind : ℕ) (key : List ℕ) → Appended at (element_head kind key) o n p → n ≡ at + (length key + 2)
-  head_ends kind key e = omega (arith, length_head kind key)
-
-  pub number_ends : (w x : ℕ) → Appended at (bytes_le w x) o n p → n ≡ at + w
-  number_ends w x e = omega (arith, length_le w x)
-
-  pub int32_ends : (key : List ℕ) (x : ℕ) → Appended at (int32_element key x) o n p → n ≡ at + (length key + 6)
-  int32_ends key x e = omega (arith, length_int32 key x)
-
-  pub string_ends : (key text : List ℕ) → Appended at (string_element key text) o n p → n ≡ at + (length key + length text + 7)
-  string_ends key text e = omega (arith, length_string key text)
-
-  pub grant_ends : (h m : ℕ) → Appended at (grant_elements h m) o n p → n ≡ at + 25
-  grant_ends h m e = omega (arith, length_grant h m)
-
-  pub rejected_ends : (name : List ℕ) → Appended at (rejected_element name) o n p → n ≡ at + (length name + 29)
-  rejected_ends name e = omega (arith, length_rejected name)
-
--- the bytes put to the front of an array are its first ones
-pub text_back : {b o q : List ℕ} {n : ℕ} → Appended 0 b o n q → take (n - 0) (drop 0 q) ≡ b
-text_back {b} {o} {n = n} e =
-    let z : n - 0 ≡ length b = omega arith in
-    rw (z, e.puts) (take_at b (drop (0 + length b) o) (length b) refl)
 
 -- "The ACK payload with it has 57; the NAK's 49", for every hash and mtu; the NAK of hashId has 40, a service's ACK 30
 sizes : (h m : ℕ) → length (ack_payload h m (version 5 4 1)) ∷ length (nak_payload protocol_version) ∷ length (nak_payload hash_id) ∷ length (service_ack_payload h m) ∷ [] ≡ 57 ∷ 49 ∷ 40 ∷ 30 ∷ []

@@ -1,12 +1,15 @@
--- The order of versions is total, code that compares the first numbers that differ decides it, and the lesser of two is one of them and at most
+-- The order of versions is total, it is the derived one, which compares the first numbers that differ, and the lesser of two is one of them and at most
 -- both. By one law for each number compared, used for major and for minor. Assumes nothing.
 use Prim.Native.Nat.{ℕ, ◌≤◌, ◌<◌}
 use mathlib.Core.Path.{◌≡◌, refl, ◌∙◌, sym}
-use mathlib.Core.Bool.{Bool, true, false, or-false}
+use mathlib.Core.Bool.{Bool, true, false, not, cond}
 use mathlib.Core.Logic.{◌⊎◌, inl, inr, ⊎_elim}
 use native.Mathlib.Omega.{arith}
 use lib.Dec.{leb, ltb, eqb}
-use borrow.Author.Tests.{lt-ltb, le-ltb, ltb-true, ltb-false, eq-eqb, ne_eqb, eqb-true, eqb-false, le-leb, leb-true, leb-false}
+use borrow.Author.Tests.{lt-ltb, le-ltb, ltb-true, ltb-false, eq-eqb, ne_eqb, eqb-true, eqb-false, le-leb, lt-leb, leb-true, leb-false}
+use Rattle.std.proofs.Common.{Ordering}
+use Rattle.std.specs.Ordering.{ordering_then, nat_cmp, is_lt, ord_min}
+use Rattle.numbers.specs.Bytes.{pick}
 use Rattle.numbers.proofs.Choices.{split}
 use Rattle.payload.specs.Version.{version, below_or, at_most, lesser_of}
 use Rattle.payload.specs.declared.version.Version.{Version}
@@ -31,22 +34,33 @@ module _ (x y : ℕ) where
       let n : x ≡ y → ⊥ = λ e. omega arith in
       rw (le-ltb x y (omega arith), ne_eqb x y n)
 
-  differs : (r : Bool) → (x ≡ y → ⊥) → ltb x y ≡ below_or x y r
-  differs r h = rw (ne_eqb x y h) (sym (or-false _))
+-- what the derived order of versions says: by major, then minor, then patch
+abbrev version_cmp : Version → Version → Ordering
+version_cmp a b = ordering_then (nat_cmp a.major b.major) (ordering_then (nat_cmp a.minor b.minor) (nat_cmp a.patch b.patch))
 
--- so code compares two versions by the first numbers that differ
-module _ (a b : Version) where
-  pub by_major : (a.major ≡ b.major → ⊥) → ltb a.major b.major ≡ at_most a b
-  unfolding at_most
-  by_major p = differs a.major b.major _ p
+-- a number is less just where the other is not at most it, by what the rest says where they are the same
+number_less : (x y : ℕ) (o : Ordering) (r : Bool) → is_lt o ≡ not r → is_lt (ordering_then (nat_cmp y x) o) ≡ not (below_or x y r)
+number_less x y o r e =
+    order x y
+    (λ h. let n : y ≡ x → ⊥ = λ z. omega arith in rw (le-ltb y x (omega arith), ne_eqb y x n, below x y r h))
+    (λ h. rw (le-ltb y x (omega arith), eq-eqb y x (sym h), same x y r h) e)
+    (λ h. rw (lt-ltb y x h, above x y r h))
 
-  pub by_minor : a.major ≡ b.major → (a.minor ≡ b.minor → ⊥) → ltb a.minor b.minor ≡ at_most a b
-  unfolding at_most
-  by_minor p q = differs a.minor b.minor _ q ∙ sym (same a.major b.major _ p)
+last_less : (x y : ℕ) → is_lt (nat_cmp y x) ≡ not (leb x y)
+last_less x y =
+    order x y
+    (λ h. let n : y ≡ x → ⊥ = λ z. omega arith in rw (le-ltb y x (omega arith), ne_eqb y x n, le-leb x y (omega arith)))
+    (λ h. rw (le-ltb y x (omega arith), eq-eqb y x (sym h), le-leb x y (omega arith)))
+    (λ h. rw (lt-ltb y x h, lt-leb x y h))
 
-  pub by_patch : a.major ≡ b.major → a.minor ≡ b.minor → leb a.patch b.patch ≡ at_most a b
-  unfolding at_most
-  by_patch p q = sym (same a.major b.major _ p ∙ same a.minor b.minor _ q)
+-- so the lesser by the derived order is the lesser version
+pub lesser_min : (a b : Version) → ord_min version_cmp a b ≡ lesser_of a b
+unfolding lesser_of at_most
+lesser_min a b = rw (number_less a.major b.major _ _ (number_less a.minor b.minor _ _ (last_less a.patch b.patch))) (turn (at_most a b))
+  where
+    turn : (r : Bool) → cond (not r) b a ≡ pick r a b
+    turn true = refl
+    turn false = refl
 
 never : {P : Type 0} → true ≡ false → P
 never e = absurd (let z : ◌≡◌ {A = ℕ} 0 1 = cc in omega arith)

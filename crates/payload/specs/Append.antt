@@ -1,8 +1,6 @@
 -- What the writers of this crate leave. 11 is document 01's. Assumes nothing.
-use Rattle.std.specs.Prelude.{ℕ, ◌+◌, ◌≡◌, List, ◌++◌, leb, length, take, drop}
+use Rattle.std.specs.Prelude.{ℕ, ◌+◌, ◌≡◌, List, ◌++◌, leb, length, take, drop, Result, Ok, Err}
 use Rattle.numbers.specs.Bytes.{unless, laid}
-use Rattle.payload.specs.declared.append.Written.{Written}
-use Rattle.payload.specs.declared.append.Written.TheVariants.{Bytes, Refused}
 
 -- a buffer with the bytes put from at on
 abbrev pub placed : ℕ → List ℕ → List ℕ → List ℕ
@@ -15,12 +13,12 @@ pub record Appended (at : ℕ) (bytes before : List ℕ) (end : ℕ) (after : Li
 
 -- what a public writer leaves: its answer and the buffer
 pub record Wrote : Type 0 where
-  pub answer : Written
+  pub answer : Result ℕ ℕ
   pub out : List ℕ
 
-abbrev pub wrote : Written → List ℕ → Wrote
+abbrev pub wrote : Result ℕ ℕ → List ℕ → Wrote
 wrote a o = record { answer = a; out = o }
 
 -- the bytes to the front of the buffer; 11, and nothing, where it is "too small for the bytes due"
 abbrev pub put_of : List ℕ → List ℕ → Wrote
-put_of bytes out = unless (leb (length bytes) (length out)) (wrote (Refused 11) out) (wrote (Bytes (length bytes)) (laid bytes out))
+put_of bytes out = unless (leb (length bytes) (length out)) (wrote (Err 11) out) (wrote (Ok (length bytes)) (laid bytes out))

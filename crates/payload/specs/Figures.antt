@@ -1,17 +1,15 @@
 -- Control payloads and what they say: document 01's marked ones, and one or more for each refusal and each side of a limit.
 -- Proved in proofs/Figures, by computation. Assumes nothing.
-use Rattle.std.specs.Prelude.{ℕ, ◌+◌, true, List, [], ◌∷◌, ◌++◌, map, ◌≡◌, length}
+use Rattle.std.specs.Prelude.{ℕ, ◌+◌, List, [], ◌∷◌, ◌++◌, map, ◌≡◌, length, Some, Result, Ok, Err}
 use Rattle.payload.specs.Tags.{protocol_version, hash_id, mtu, rejected_params, no_tags}
 use Rattle.payload.specs.Walk.{payload_of}
 use Rattle.payload.specs.declared.Tags.{Tags}
-use Rattle.payload.specs.declared.Payload.{Payload}
-use Rattle.payload.specs.declared.Payload.TheVariants.{Accepted, Refused}
 
 pub record Figure : Type 0 where
   pub bytes : List ℕ
-  pub says : Payload
+  pub says : Result Tags ℕ
 
-abbrev figure : List ℕ → Payload → Figure
+abbrev figure : List ℕ → Result Tags ℕ → Figure
 figure bytes says = record { bytes = bytes; says = says }
 
 -- "5.4.1"
@@ -52,30 +50,25 @@ inside nested = 0x03 ∷ 0x61 ∷ 0 ∷ nested
 abbrev around : List ℕ → List ℕ
 around nested = document (inside (document (inside (document (inside (document (inside (document (inside (document (inside (document (inside nested)))))))))))))
 
-abbrev nothing : Payload
-nothing = Accepted no_tags
+abbrev nothing : Result Tags ℕ
+nothing = Ok no_tags
 
 abbrev only_version : Tags
-only_version = record { version = record { found = true; at = 25; length = 5 }; hash = no_tags.hash; mtu = no_tags.mtu; rejected = no_tags.rejected }
+only_version = record { version = Some (record { at = 25; length = 5 }); hash = no_tags.hash; mtu = no_tags.mtu; rejected = no_tags.rejected }
 
 abbrev ack_tags : Tags
-ack_tags = record {
-  version = record { found = true; at = 50; length = 5 };
-  hash = record { found = true; value = 39027 };
-  mtu = record { found = true; value = 131084 };
-  rejected = no_tags.rejected;
-}
+ack_tags = record { version = Some (record { at = 50; length = 5 }); hash = Some 39027; mtu = Some 131084; rejected = no_tags.rejected }
 
 -- its array begins behind the payload's length, its own type and its key of 14 bytes with a 0
 abbrev only_rejected : Tags
-only_rejected = record { version = no_tags.version; hash = no_tags.hash; mtu = no_tags.mtu; rejected = record { found = true; at = 20; length = 28 } }
+only_rejected = record { version = no_tags.version; hash = no_tags.hash; mtu = no_tags.mtu; rejected = Some (record { at = 20; length = 28 }) }
 
 -- document 01's marked payloads; "data size 0 means no tags"; the smallest document
 abbrev accepted : List Figure
 accepted =
-    figure marked (Accepted only_version)
-    ∷ figure ack (Accepted ack_tags)
-    ∷ figure nak (Accepted only_rejected)
+    figure marked (Ok only_version)
+    ∷ figure ack (Ok ack_tags)
+    ∷ figure nak (Ok only_rejected)
     ∷ figure [] nothing
     ∷ figure (5 ∷ 0 ∷ 0 ∷ 0 ∷ 0 ∷ []) nothing
     ∷ []
@@ -83,18 +76,18 @@ accepted =
 -- 30: under 5 bytes, a length of one too many, of one too few, and in its high byte
 abbrev lengths : List Figure
 lengths =
-    figure (4 ∷ 0 ∷ 0 ∷ 0 ∷ []) (Refused 30)
-    ∷ figure (6 ∷ 0 ∷ 0 ∷ 0 ∷ 0 ∷ []) (Refused 30)
-    ∷ figure (5 ∷ 0 ∷ 0 ∷ 0 ∷ 0 ∷ 0 ∷ []) (Refused 30)
-    ∷ figure (5 ∷ 0 ∷ 0 ∷ 0x80 ∷ 0 ∷ []) (Refused 30)
+    figure (4 ∷ 0 ∷ 0 ∷ 0 ∷ []) (Err 30)
+    ∷ figure (6 ∷ 0 ∷ 0 ∷ 0 ∷ 0 ∷ []) (Err 30)
+    ∷ figure (5 ∷ 0 ∷ 0 ∷ 0 ∷ 0 ∷ 0 ∷ []) (Err 30)
+    ∷ figure (5 ∷ 0 ∷ 0 ∷ 0x80 ∷ 0 ∷ []) (Err 30)
     ∷ []
 
 -- types: 05 is not read; in a document's last byte an unread one is 31, a read one 32, since its key runs past
 abbrev types : List Figure
 types =
-    figure (document (0x05 ∷ 0x78 ∷ 0 ∷ [])) (Refused 31)
-    ∷ figure (5 ∷ 0 ∷ 0 ∷ 0 ∷ 0x05 ∷ []) (Refused 31)
-    ∷ figure (5 ∷ 0 ∷ 0 ∷ 0 ∷ 0x0A ∷ []) (Refused 32)
+    figure (document (0x05 ∷ 0x78 ∷ 0 ∷ [])) (Err 31)
+    ∷ figure (5 ∷ 0 ∷ 0 ∷ 0 ∷ 0x05 ∷ []) (Err 31)
+    ∷ figure (5 ∷ 0 ∷ 0 ∷ 0 ∷ 0x0A ∷ []) (Err 32)
     ∷ figure (document (0x0A ∷ 0x78 ∷ 0 ∷ [])) nothing
     ∷ figure (document (0x01 ∷ 0x78 ∷ 0 ∷ 1 ∷ 2 ∷ 3 ∷ 4 ∷ 5 ∷ 6 ∷ 7 ∷ 8 ∷ [])) nothing
     ∷ []
@@ -103,17 +96,17 @@ types =
 -- booleans 1 and 2; strings of length 0, with another last byte, of length 1; nested lengths 4, one too many, and 5
 abbrev malformed : List Figure
 malformed =
-    figure (7 ∷ 0 ∷ 0 ∷ 0 ∷ 0x0A ∷ 0x78 ∷ 0x78 ∷ []) (Refused 32)
-    ∷ figure (7 ∷ 0 ∷ 0 ∷ 0 ∷ 0x08 ∷ 0x78 ∷ 0 ∷ []) (Refused 32)
-    ∷ figure (document (0 ∷ [])) (Refused 32)
-    ∷ figure (7 ∷ 0 ∷ 0 ∷ 0 ∷ 0x0A ∷ 0x78 ∷ 0 ∷ []) (Refused 32)
+    figure (7 ∷ 0 ∷ 0 ∷ 0 ∷ 0x0A ∷ 0x78 ∷ 0x78 ∷ []) (Err 32)
+    ∷ figure (7 ∷ 0 ∷ 0 ∷ 0 ∷ 0x08 ∷ 0x78 ∷ 0 ∷ []) (Err 32)
+    ∷ figure (document (0 ∷ [])) (Err 32)
+    ∷ figure (7 ∷ 0 ∷ 0 ∷ 0 ∷ 0x0A ∷ 0x78 ∷ 0 ∷ []) (Err 32)
     ∷ figure (document (0x08 ∷ 0x78 ∷ 0 ∷ 1 ∷ [])) nothing
-    ∷ figure (document (0x08 ∷ 0x78 ∷ 0 ∷ 2 ∷ [])) (Refused 32)
-    ∷ figure (document (0x02 ∷ 0x78 ∷ 0 ∷ 0 ∷ 0 ∷ 0 ∷ 0 ∷ [])) (Refused 32)
-    ∷ figure (document (0x02 ∷ 0x78 ∷ 0 ∷ 1 ∷ 0 ∷ 0 ∷ 0 ∷ 0x78 ∷ [])) (Refused 32)
+    ∷ figure (document (0x08 ∷ 0x78 ∷ 0 ∷ 2 ∷ [])) (Err 32)
+    ∷ figure (document (0x02 ∷ 0x78 ∷ 0 ∷ 0 ∷ 0 ∷ 0 ∷ 0 ∷ [])) (Err 32)
+    ∷ figure (document (0x02 ∷ 0x78 ∷ 0 ∷ 1 ∷ 0 ∷ 0 ∷ 0 ∷ 0x78 ∷ [])) (Err 32)
     ∷ figure (document (0x02 ∷ 0x78 ∷ 0 ∷ 1 ∷ 0 ∷ 0 ∷ 0 ∷ 0 ∷ [])) nothing
-    ∷ figure (document (inside (4 ∷ 0 ∷ 0 ∷ 0 ∷ 0 ∷ []))) (Refused 32)
-    ∷ figure (document (inside (7 ∷ 0 ∷ 0 ∷ 0 ∷ 0 ∷ []))) (Refused 32)
+    ∷ figure (document (inside (4 ∷ 0 ∷ 0 ∷ 0 ∷ 0 ∷ []))) (Err 32)
+    ∷ figure (document (inside (7 ∷ 0 ∷ 0 ∷ 0 ∷ 0 ∷ []))) (Err 32)
     ∷ figure (document (inside (5 ∷ 0 ∷ 0 ∷ 0 ∷ 0 ∷ []))) nothing
     ∷ []
 
@@ -121,21 +114,21 @@ malformed =
 abbrev depths : List Figure
 depths =
     figure (around (document [])) nothing
-    ∷ figure (around (document (inside (document [])))) (Refused 33)
-    ∷ figure (around (document (inside (0 ∷ 0 ∷ 0 ∷ 0 ∷ [])))) (Refused 33)
-    ∷ figure (document (inside (9 ∷ 0 ∷ 0 ∷ 0 ∷ 0x05 ∷ 0 ∷ 0 ∷ []))) (Refused 32)
+    ∷ figure (around (document (inside (document [])))) (Err 33)
+    ∷ figure (around (document (inside (0 ∷ 0 ∷ 0 ∷ 0 ∷ [])))) (Err 33)
+    ∷ figure (document (inside (9 ∷ 0 ∷ 0 ∷ 0 ∷ 0x05 ∷ 0 ∷ 0 ∷ []))) (Err 32)
     ∷ []
 
 -- 34: another type; twice; before its value's fault; at the document's end, where no value is; a 31 that comes before it, and one that
 -- comes behind it; known names below the top level are no tags
 abbrev tags : List Figure
 tags =
-    figure (document (0x10 ∷ (mtu ++ (0 ∷ 1 ∷ 0 ∷ 0 ∷ 0 ∷ [])))) (Refused 34)
-    ∷ figure (document (hash_element ++ hash_element)) (Refused 34)
-    ∷ figure (document (0x08 ∷ (mtu ++ (0 ∷ 2 ∷ [])))) (Refused 34)
-    ∷ figure (9 ∷ 0 ∷ 0 ∷ 0 ∷ 0x10 ∷ (mtu ++ (0 ∷ []))) (Refused 34)
-    ∷ figure (document (0x05 ∷ 0x78 ∷ 0 ∷ (hash_element ++ hash_element))) (Refused 31)
-    ∷ figure (document (hash_element ++ (hash_element ++ (0x05 ∷ 0x78 ∷ 0 ∷ [])))) (Refused 34)
+    figure (document (0x10 ∷ (mtu ++ (0 ∷ 1 ∷ 0 ∷ 0 ∷ 0 ∷ [])))) (Err 34)
+    ∷ figure (document (hash_element ++ hash_element)) (Err 34)
+    ∷ figure (document (0x08 ∷ (mtu ++ (0 ∷ 2 ∷ [])))) (Err 34)
+    ∷ figure (9 ∷ 0 ∷ 0 ∷ 0 ∷ 0x10 ∷ (mtu ++ (0 ∷ []))) (Err 34)
+    ∷ figure (document (0x05 ∷ 0x78 ∷ 0 ∷ (hash_element ++ hash_element))) (Err 31)
+    ∷ figure (document (hash_element ++ (hash_element ++ (0x05 ∷ 0x78 ∷ 0 ∷ [])))) (Err 34)
     ∷ figure (document (inside (document (hash_element ++ (hash_element ++ (0x10 ∷ (mtu ++ (0 ∷ 1 ∷ 0 ∷ 0 ∷ 0 ∷ [])))))))) nothing
     ∷ []
 

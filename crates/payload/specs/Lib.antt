@@ -1,5 +1,6 @@
 pub mod Step
 pub mod Tags
+pub mod Kind
 pub mod Walk
 pub mod Append
 pub mod Version

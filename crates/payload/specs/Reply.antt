@@ -1,9 +1,10 @@
 -- The control payloads that the module writes, in bsonspec.org's grammar; BSON's numbers are least significant first. Document 01: "We write only
 -- the reply payloads above." Assumes nothing.
-use Rattle.std.specs.Prelude.{ℕ, ◌+◌, ◌-◌, true, List, [], ◌∷◌, ◌++◌, length}
+use Rattle.std.specs.Prelude.{ℕ, ◌+◌, ◌-◌, List, [], ◌∷◌, ◌++◌, length, Some}
 use Rattle.numbers.specs.Bytes.{part}
 use Rattle.numbers.specs.Numbers.{bytes_le}
 use Rattle.payload.specs.declared.Tags.{Tags}
+use Rattle.payload.specs.declared.Span.{Span}
 use Rattle.payload.specs.declared.version.Version.{Version}
 use Rattle.payload.specs.declared.reply.Parameter.{Parameter}
 use Rattle.payload.specs.declared.reply.Parameter.TheVariants.{ProtocolVersion, HashId}
@@ -78,15 +79,13 @@ name_of HashId = hash_id
 
 -- what the reader finds in each of them; the string's place is the one behind hashId, mtu and its own head, the array's the one behind its head
 abbrev pub grant_tags : ℕ → ℕ → Tags
-grant_tags h m = record { version = no_tags.version; hash = record { found = true; value = h }; mtu = record { found = true; value = m }; rejected = no_tags.rejected }
+grant_tags h m = record { version = no_tags.version; hash = Some h; mtu = Some m; rejected = no_tags.rejected }
+
+abbrev pub version_span : Version → Span
+version_span v = record { at = 50; length = length (version_text v) }
 
 abbrev pub ack_tags : ℕ → ℕ → Version → Tags
-ack_tags h m v = record {
-  version = record { found = true; at = 50; length = length (version_text v) };
-  hash = record { found = true; value = h };
-  mtu = record { found = true; value = m };
-  rejected = no_tags.rejected;
-}
+ack_tags h m v = record { version = Some (version_span v); hash = Some h; mtu = Some m; rejected = no_tags.rejected }
 
 abbrev pub nak_tags : List ℕ → Tags
-nak_tags name = record { version = no_tags.version; hash = no_tags.hash; mtu = no_tags.mtu; rejected = record { found = true; at = 20; length = length (array_of name) } }
+nak_tags name = record { version = no_tags.version; hash = no_tags.hash; mtu = no_tags.mtu; rejected = Some (record { at = 20; length = length (array_of name) }) }

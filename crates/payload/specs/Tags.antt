@@ -1,23 +1,18 @@
 -- The known tags of a control payload, and what is found of them. Document 01, "Control payloads": "Known tags, in every
 -- payload: protocolVersion (02), hashId (10), mtu (12), rejectedParams (04). Others, height included, are unknown and are skipped".
 -- Assumes nothing.
-use Rattle.std.specs.Prelude.{ℕ, ◌+◌, ◌-◌, Bool, true, false, not, ◌&&◌, ◌||◌, List, [], ◌∷◌, eqb}
+use Rattle.std.specs.Prelude.{ℕ, ◌+◌, ◌-◌, Bool, true, false, not, ◌||◌, List, [], ◌∷◌, eqb, Some, None, is_some, bytes_eq}
+use Rattle.std.specs.Option.{option_map_or}
 use Rattle.numbers.specs.Bytes.{part, pick}
 use Rattle.numbers.specs.Numbers.{value_le}
-use Rattle.payload.specs.declared.StringTag.{StringTag}
-use Rattle.payload.specs.declared.HashTag.{HashTag}
-use Rattle.payload.specs.declared.MtuTag.{MtuTag}
-use Rattle.payload.specs.declared.ArrayTag.{ArrayTag}
+use Rattle.payload.specs.declared.Span.{Span}
 use Rattle.payload.specs.declared.Tags.{Tags}
 use Rattle.payload.specs.declared.Tag.{Tag}
 use Rattle.payload.specs.declared.Tag.TheVariants.{Unknown, ProtocolVersion, HashId, Mtu, RejectedParams}
 
 -- whether two lists hold the same bytes
 abbrev pub same_bytes : List ℕ → List ℕ → Bool
-same_bytes [] [] = true
-same_bytes [] (y ∷ ys) = false
-same_bytes (x ∷ xs) [] = false
-same_bytes (x ∷ xs) (y ∷ ys) = eqb x y && same_bytes xs ys
+same_bytes a b = bytes_eq a b
 
 -- "protocolVersion", in ASCII
 abbrev pub protocol_version : List ℕ
@@ -55,10 +50,10 @@ typed RejectedParams kind = eqb kind 0x04
 -- whether a known tag was found before
 abbrev pub found : Tags → Tag → Bool
 found t Unknown = false
-found t ProtocolVersion = t.version.found
-found t HashId = t.hash.found
-found t Mtu = t.mtu.found
-found t RejectedParams = t.rejected.found
+found t ProtocolVersion = is_some t.version
+found t HashId = is_some t.hash
+found t Mtu = is_some t.mtu
+found t RejectedParams = is_some t.rejected
 
 -- 34: "known tag twice or of another type"
 abbrev pub clashes : Tags → Tag → ℕ → Bool
@@ -66,36 +61,35 @@ clashes t tag kind = found t tag || not (typed tag kind)
 
 -- the payload of no bytes: "no tags"
 abbrev pub no_tags : Tags
-no_tags = record {
-  version = record { found = false; at = 0; length = 0 };
-  hash = record { found = false; value = 0 };
-  mtu = record { found = false; value = 0 };
-  rejected = record { found = false; at = 0; length = 0 };
-}
+no_tags = record { version = None; hash = None; mtu = None; rejected = None }
 
 -- a string, whose value starts at v: behind its length of four bytes, and without the 0 byte that the length counts
-abbrev pub string_at : List ℕ → ℕ → StringTag
-string_at s v = record { found = true; at = v + 4; length = value_le (part s v 4) - 1 }
+abbrev pub string_at : List ℕ → ℕ → Span
+string_at s v = record { at = v + 4; length = value_le (part s v 4) - 1 }
 
 -- "BSON numbers least significant first": a hash id as its 32 bits ("An int32 hashId is the hash's same 32 bits."), an mtu as its 64 bits
-abbrev pub hash_at : List ℕ → ℕ → HashTag
-hash_at s v = record { found = true; value = value_le (part s v 4) }
+abbrev pub hash_at : List ℕ → ℕ → ℕ
+hash_at s v = value_le (part s v 4)
 
-abbrev pub mtu_at : List ℕ → ℕ → MtuTag
-mtu_at s v = record { found = true; value = value_le (part s v 8) }
+abbrev pub mtu_at : List ℕ → ℕ → ℕ
+mtu_at s v = value_le (part s v 8)
 
 -- an array, whose value starts at v: document ::= int32 e_list 0, and the int32 is the "total number of bytes comprising the document"
-abbrev pub array_at : List ℕ → ℕ → ArrayTag
-array_at s v = record { found = true; at = v; length = value_le (part s v 4) }
+abbrev pub array_at : List ℕ → ℕ → Span
+array_at s v = record { at = v; length = value_le (part s v 4) }
 
 -- the tags with one more, whose value starts at v; unknown ones "are skipped"
 abbrev pub with_tag : List ℕ → Tags → Tag → ℕ → Tags
 with_tag s t Unknown v = t
-with_tag s t ProtocolVersion v = record { version = string_at s v; hash = t.hash; mtu = t.mtu; rejected = t.rejected }
-with_tag s t HashId v = record { version = t.version; hash = hash_at s v; mtu = t.mtu; rejected = t.rejected }
-with_tag s t Mtu v = record { version = t.version; hash = t.hash; mtu = mtu_at s v; rejected = t.rejected }
-with_tag s t RejectedParams v = record { version = t.version; hash = t.hash; mtu = t.mtu; rejected = array_at s v }
+with_tag s t ProtocolVersion v = record { version = Some (string_at s v); hash = t.hash; mtu = t.mtu; rejected = t.rejected }
+with_tag s t HashId v = record { version = t.version; hash = Some (hash_at s v); mtu = t.mtu; rejected = t.rejected }
+with_tag s t Mtu v = record { version = t.version; hash = t.hash; mtu = Some (mtu_at s v); rejected = t.rejected }
+with_tag s t RejectedParams v = record { version = t.version; hash = t.hash; mtu = t.mtu; rejected = Some (array_at s v) }
+
+-- the bytes of a place
+abbrev pub bytes_in : List ℕ → Span → List ℕ
+bytes_in s a = part s a.at a.length
 
 -- the array of rejectedParams in the bytes that were read: its whole document; nothing where it was not found
 abbrev pub rejected_in : List ℕ → Tags → List ℕ
-rejected_in s t = part s t.rejected.at t.rejected.length
+rejected_in s t = option_map_or (bytes_in s) t.rejected []

@@ -1,16 +1,12 @@
 -- Version strings. Document 01, "Control payloads": "A version string is three decimal parts of value 0 to 255, no spare zeros, major at
 -- least 1." Assumes nothing.
-use Rattle.std.specs.Prelude.{ℕ, ◌+◌, min, Bool, not, ◌&&◌, ◌||◌, List, ◌∷◌, ◌++◌, eqb, leb, ltb, length, take, drop, get_or}
+use Rattle.std.specs.Prelude.{ℕ, ◌+◌, Bool, ◌&&◌, ◌||◌, List, ◌∷◌, ◌++◌, eqb, leb, ltb, length, take, drop, get_or, Option, Some, None, Result, Ok, Err}
 use Rattle.lines.specs.Place.{index_of}
 use Rattle.lines.specs.Decimal.{number_of, decimal_of}
-use Rattle.lines.specs.declared.Number.{Number}
-use Rattle.lines.specs.declared.Number.TheVariants.{Value, NotDecimal, TooLarge}
+use Rattle.lines.specs.declared.NumberFault.{NumberFault}
 use Rattle.numbers.specs.Bytes.{pick, unless}
 use Rattle.payload.specs.Append.{Wrote, wrote, put_of}
-use Rattle.payload.specs.declared.append.Written.TheVariants.{Refused}
 use Rattle.payload.specs.declared.version.Version.{Version}
-use Rattle.payload.specs.declared.version.VersionText.{VersionText}
-use Rattle.payload.specs.declared.version.VersionText.TheVariants.{Good, Bad}
 
 abbrev pub version : ℕ → ℕ → ℕ → Version
 version a b c = record { major = a; minor = b; patch = c }
@@ -26,22 +22,22 @@ after_dot text = drop (index_of 46 text + 1) text
 abbrev pub spare_zero : List ℕ → Bool
 spare_zero text = leb 2 (length text) && eqb (get_or text 0 0) 48
 
--- what decimal text says, as far as a part may say it: 256 for what is no number, or a larger one
-abbrev pub part_value : Number → ℕ
-part_value (Value n) = min n 256
-part_value NotDecimal = 256
-part_value TooLarge = 256
+-- what decimal text says, as far as a part may say it: "value 0 to 255"
+abbrev pub part_value : Result ℕ NumberFault → Option ℕ
+part_value (Ok n) = unless (leb n 255) None (Some n)
+part_value (Err fault) = None
 
--- what a part says: "value 0 to 255, no spare zeros", else 256
-unfoldable pub part_of : List ℕ → ℕ
-part_of text = pick (spare_zero text) 256 (part_value (number_of text))
+-- what a part says: "value 0 to 255, no spare zeros"
+unfoldable pub part_of : List ℕ → Option ℕ
+part_of text = pick (spare_zero text) None (part_value (number_of text))
 
--- "three decimal parts of value 0 to 255, .. major at least 1"
-unfoldable pub version_from : ℕ → ℕ → ℕ → VersionText
-version_from a b c = unless (not (eqb a 0) && (leb a 255 && (leb b 255 && leb c 255))) Bad (Good (version a b c))
+-- "three decimal parts .., major at least 1"
+unfoldable pub version_from : Option ℕ → Option ℕ → Option ℕ → Option Version
+version_from (Some a) (Some b) (Some c) = unless (leb 1 a) None (Some (version a b c))
+version_from a b c = None
 
 -- the version that a text says; a fourth part stays in the third, which is then no number
-unfoldable pub version_of : List ℕ → VersionText
+unfoldable pub version_of : List ℕ → Option Version
 version_of text = version_from (part_of (before_dot text)) (part_of (before_dot (after_dot text))) (part_of (after_dot (after_dot text)))
 
 -- "protocolVersion (string)": the string of a version, whatever its numbers; it is written only where it can be read (`write_version_of`)
@@ -50,7 +46,7 @@ version_text v = decimal_of v.major ++ (46 ∷ (decimal_of v.minor ++ (46 ∷ de
 
 -- what a writer leaves whose bytes say a version: 10, "settings .. out of range", and nothing, where no string says it ("major at least 1"); else the bytes, or 11
 abbrev pub saying_of : Version → List ℕ → List ℕ → Wrote
-saying_of v bytes out = unless (leb 1 v.major) (wrote (Refused 10) out) (put_of bytes out)
+saying_of v bytes out = unless (leb 1 v.major) (wrote (Err 10) out) (put_of bytes out)
 
 -- the string of a version to the front of the buffer
 abbrev pub write_version_of : Version → List ℕ → Wrote

@@ -1,9 +1,9 @@
 // Control payloads: the reader of their one BSON document. Document 01, "Control payloads".
-// It knows no frame and no session: a byte slice in, the known tags or a refusal's number out.
+// It knows no frame and no session: a byte slice in, the known tags or a refusal out.
 #![tactic(auto)]
 
-pub mod append;
-pub mod refusal;
+mod draft;
+mod kind;
 pub mod reply;
 pub mod version;
 
@@ -12,62 +12,34 @@ ghost use Rattle.numbers.specs.Bytes.{part};
 ghost use Rattle.numbers.specs.Numbers.{value_le};
 ghost use Rattle.payload.specs.Tags.{same_bytes, tag_of, found, clashes, no_tags, string_at, hash_at, mtu_at, array_at, with_tag, rejected_in};
 ghost use Rattle.payload.specs.Walk.{read_type, nests, fixed_of, boolean_of, string_of, plain_of, tag_at, head_of, element_of, document_of, answer, payload_of};
-ghost use Rattle.payload.specs.Step.{plain_step, nested_step, stepped, StepIn};
+ghost use Rattle.payload.specs.Step.{stepped, StepIn};
 
-use check::same;
+use crate::kind::{BsonType, Kind};
+use figures::refusal::Refusal;
 
-// A string's place in the caller's slice, and its length without the final 0 byte that BSON counts. Not found: both 0.
-#[derive(Clone, Copy)]
-pub struct StringTag {
-    pub found: bool,
+// A place in the caller's slice: where it begins, and its bytes.
+#[derive(Clone, Copy, Debug, Default, PartialEq, Eq)]
+pub struct Span {
     pub at: usize,
     pub length: usize,
 }
 
-// A hash id as its 32 bits. Not found: 0.
-#[derive(Clone, Copy)]
-pub struct HashTag {
-    pub found: bool,
-    pub value: u32,
-}
-
-// An mtu as its 64 bits. Not found: 0.
-#[derive(Clone, Copy)]
-pub struct MtuTag {
-    pub found: bool,
-    pub value: u64,
-}
-
-// An array's place in the caller's slice: where its document begins, and that document's bytes in all. Not found: both 0.
-#[derive(Clone, Copy)]
-pub struct ArrayTag {
-    pub found: bool,
-    pub at: usize,
-    pub length: usize,
-}
-
-// The known tags of a payload.
-#[derive(Clone, Copy)]
+// The known tags of a payload, those that it has.
+#[derive(Clone, Copy, Debug, Default, PartialEq, Eq)]
 pub struct Tags {
-    // protocolVersion
-    pub version: StringTag,
-    // hashId
-    pub hash: HashTag,
-    pub mtu: MtuTag,
-    // rejectedParams
-    pub rejected: ArrayTag,
-}
-
-// What a payload says: its known tags, or a refusal 30 to 34.
-#[derive(Clone, Copy)]
-pub enum Payload {
-    Accepted(Tags),
-    Refused(u8),
+    // protocolVersion: the string without the final 0 byte that BSON counts
+    pub version: Option<Span>,
+    // hashId as its 32 bits
+    pub hash: Option<u32>,
+    // mtu as its 64 bits
+    pub mtu: Option<u64>,
+    // rejectedParams: the array's document, all its bytes
+    pub rejected: Option<Span>,
 }
 
 // What a key names.
-#[derive(Clone, Copy)]
-pub enum Tag {
+#[derive(Clone, Copy, Debug)]
+enum Tag {
     Unknown,
     ProtocolVersion,
     HashId,
@@ -75,53 +47,21 @@ pub enum Tag {
     RejectedParams,
 }
 
-// A value that holds no document: the place past it; or it runs past its document, or is none of its type.
-#[derive(Clone, Copy)]
-pub enum Skip {
-    To(usize),
-    Wrong,
-}
-
-// What stands before an element's value: its type, its tag and the value's place; or a refusal's number.
-#[derive(Clone, Copy)]
-pub enum Head {
-    Value(u8, Tag, usize),
-    Bad(u8),
-}
-
-// What an element comes to: the place past it, its tag and its value's place; or the first fault's number.
-#[derive(Clone, Copy)]
-pub enum Step {
-    Next(usize, Tag, usize),
-    Stop(u8),
-}
-
-// What a document comes to: the place past it with the tags so far; or the first fault's number.
-#[derive(Clone, Copy)]
-pub enum Walk {
-    Past(usize, Tags),
-    Fault(u8),
-}
-
-fn key_is(key: &[u8], name: &[u8]) -> bool
-    ensures { result ≡ same_bytes key.now name.now }
-{
-    same(key, name)
-}
-
+// No match on the key: it makes a goal for each byte that can differ.
+#[tactic(auto, using(crate::proofs::Tests::key_is), unfolding(crate::specs::Tags::tag_of))]
 fn tag_of(key: &[u8]) -> Tag
     ensures { result ≡ tag_of key.now }
 {
-    if key_is(key, b"protocolVersion") {
+    if key == b"protocolVersion".as_slice() {
         return Tag::ProtocolVersion;
     }
-    if key_is(key, b"hashId") {
+    if key == b"hashId".as_slice() {
         return Tag::HashId;
     }
-    if key_is(key, b"mtu") {
+    if key == b"mtu".as_slice() {
         return Tag::Mtu;
     }
-    if key_is(key, b"rejectedParams") {
+    if key == b"rejectedParams".as_slice() {
         return Tag::RejectedParams;
     }
     Tag::Unknown
@@ -144,15 +84,15 @@ fn was_found(tags: Tags, tag: Tag) -> bool
 {
     match tag {
         Tag::Unknown => false,
-        Tag::ProtocolVersion => tags.version.found,
-        Tag::HashId => tags.hash.found,
-        Tag::Mtu => tags.mtu.found,
-        Tag::RejectedParams => tags.rejected.found,
+        Tag::ProtocolVersion => tags.version.is_some(),
+        Tag::HashId => tags.hash.is_some(),
+        Tag::Mtu => tags.mtu.is_some(),
+        Tag::RejectedParams => tags.rejected.is_some(),
     }
 }
 
 // A known tag that comes twice, or has another type.
-fn does_clash(tags: Tags, tag: Tag, kind: u8) -> bool
+fn does_clash(tags: Tags, tag: Tag, kind: Kind) -> bool
     ensures { result ≡ clashes tags tag kind }
 {
     if was_found(tags, tag) {
@@ -160,63 +100,51 @@ fn does_clash(tags: Tags, tag: Tag, kind: u8) -> bool
     }
     match tag {
         Tag::Unknown => false,
-        Tag::ProtocolVersion => kind != 2,
-        Tag::HashId => kind != 16,
-        Tag::Mtu => kind != 18,
-        Tag::RejectedParams => kind != 4,
+        Tag::ProtocolVersion => !matches!(kind.bson, BsonType::String),
+        Tag::HashId => !matches!(kind.bson, BsonType::Int32),
+        Tag::Mtu => !matches!(kind.bson, BsonType::Int64),
+        Tag::RejectedParams => !matches!(kind.bson, BsonType::Array),
     }
 }
 
-fn less_one(n: usize) -> usize
-    ensures { result ≡ n - 1 }
+// The length that a string or a document starts with. It and the two tags below read a number each: a name for each, as the definitions have.
+fn size_at(bytes: &[u8], at: usize) -> usize
+    ensures { result ≡ value_le (part bytes.now at 4) }
 {
-    if n == 0 { 0 } else { n - 1 }
+    numbers::le::<u32>(bytes, at) as usize
 }
 
-fn string_at(bytes: &[u8], value: usize) -> StringTag
+// A string, whose value starts with its length.
+fn string_at(bytes: &[u8], value: usize) -> Span
     requires { value + 4 < 2 ^ 64 }
     ensures { result ≡ string_at bytes.now value }
 {
-    let counted = numbers::le4(bytes, value) as usize;
-    StringTag {
-        found: true,
+    let counted = size_at(bytes, value);
+    Span {
         at: value + 4,
-        length: less_one(counted),
+        length: counted.saturating_sub(1),
     }
 }
 
 // Least significant first.
-fn hash_bits(bytes: &[u8], value: usize) -> u32
-    ensures { result ≡ value_le (part bytes.now value 4) }
-{
-    numbers::le4(bytes, value)
-}
-
-fn hash_at(bytes: &[u8], value: usize) -> HashTag
+fn hash_at(bytes: &[u8], value: usize) -> u32
     ensures { result ≡ hash_at bytes.now value }
 {
-    HashTag {
-        found: true,
-        value: hash_bits(bytes, value),
-    }
+    numbers::le::<u32>(bytes, value)
 }
 
-fn mtu_at(bytes: &[u8], value: usize) -> MtuTag
+fn mtu_at(bytes: &[u8], value: usize) -> u64
     ensures { result ≡ mtu_at bytes.now value }
 {
-    MtuTag {
-        found: true,
-        value: numbers::le8(bytes, value),
-    }
+    numbers::le::<u64>(bytes, value)
 }
 
-fn array_at(bytes: &[u8], value: usize) -> ArrayTag
+fn array_at(bytes: &[u8], value: usize) -> Span
     ensures { result ≡ array_at bytes.now value }
 {
-    ArrayTag {
-        found: true,
+    Span {
         at: value,
-        length: numbers::le4(bytes, value) as usize,
+        length: size_at(bytes, value),
     }
 }
 
@@ -225,296 +153,206 @@ fn with_tag(bytes: &[u8], tags: Tags, tag: Tag, value: usize) -> Tags
     requires { value + 4 < 2 ^ 64 }
     ensures { result ≡ with_tag bytes.now tags tag value }
 {
-    let mut more = tags;
     match tag {
-        Tag::Unknown => more,
-        Tag::ProtocolVersion => {
-            more.version = string_at(bytes, value);
-            more
-        }
-        Tag::HashId => {
-            more.hash = hash_at(bytes, value);
-            more
-        }
-        Tag::Mtu => {
-            more.mtu = mtu_at(bytes, value);
-            more
-        }
-        Tag::RejectedParams => {
-            more.rejected = array_at(bytes, value);
-            more
-        }
+        Tag::Unknown => tags,
+        Tag::ProtocolVersion => Tags {
+            version: Some(string_at(bytes, value)),
+            ..tags
+        },
+        Tag::HashId => Tags {
+            hash: Some(hash_at(bytes, value)),
+            ..tags
+        },
+        Tag::Mtu => Tags {
+            mtu: Some(mtu_at(bytes, value)),
+            ..tags
+        },
+        Tag::RejectedParams => Tags {
+            rejected: Some(array_at(bytes, value)),
+            ..tags
+        },
     }
 }
 
-fn is_read(kind: u8) -> bool
-    ensures { result ≡ read_type kind }
-{
-    if kind == 1 {
-        return true;
-    }
-    if kind == 2 {
-        return true;
-    }
-    if kind == 3 {
-        return true;
-    }
-    if kind == 4 {
-        return true;
-    }
-    if kind == 8 {
-        return true;
-    }
-    if kind == 10 {
-        return true;
-    }
-    if kind == 16 {
-        return true;
-    }
-    kind == 18
-}
-
-fn is_nested(kind: u8) -> bool
-    ensures { result ≡ nests kind }
-{
-    kind == 3 || kind == 4
-}
-
+// The bytes, a place and an end stay parameters below: a struct that holds a reference is no plainer, since each clause says
+// `self.entry.bytes.now self.entry.at` and so on.
 // A value of so many bytes.
-fn fixed(width: usize, value: usize, end: usize) -> Skip
+#[tactic(auto, unfolding(crate::specs::Walk::fixed_of))]
+fn fixed(width: usize, value: usize, end: usize) -> Option<usize>
     requires { value ≤ end }
     ensures { result ≡ fixed_of width value end }
 {
     if width <= end - value {
-        Skip::To(value + width)
+        Some(value + width)
     } else {
-        Skip::Wrong
+        None
     }
 }
 
-fn boolean(bytes: &[u8], value: usize, end: usize) -> Skip
+#[tactic(auto, unfolding(crate::specs::Walk::boolean_of))]
+fn boolean(bytes: &[u8], value: usize, end: usize) -> Option<usize>
     requires { end ≤ length bytes.now }
     ensures { result ≡ boolean_of bytes.now value end }
 {
     if end <= value {
-        return Skip::Wrong;
+        return None;
     }
     if bytes[value] < 2 {
-        Skip::To(value + 1)
+        Some(value + 1)
     } else {
-        Skip::Wrong
+        None
     }
 }
 
-fn string(bytes: &[u8], value: usize, end: usize) -> Skip
+fn string(bytes: &[u8], value: usize, end: usize) -> Option<usize>
     requires { (value ≤ end) × (end ≤ length bytes.now) }
     ensures { result ≡ string_of bytes.now value end }
 {
     if end - value < 4 {
-        return Skip::Wrong;
+        return None;
     }
-    let counted = numbers::le4(bytes, value) as usize;
-    if counted < 1 {
-        return Skip::Wrong;
+    let counted = size_at(bytes, value);
+    if counted < 1 || end - value - 4 < counted {
+        return None;
     }
-    if end - value - 4 < counted {
-        return Skip::Wrong;
-    }
-    if bytes[value + 3 + counted] == 0 {
-        Skip::To(value + 4 + counted)
+    // a name of its own for what is judged, so that an edit of it changes a value and no branch (docs/PROVING.md); so below
+    let closed = bytes[value + 3 + counted] == 0;
+    if closed {
+        Some(value + 4 + counted)
     } else {
-        Skip::Wrong
+        None
     }
 }
 
 // A value that holds no document.
-fn plain(bytes: &[u8], value: usize, end: usize, kind: u8) -> Skip
+#[tactic(auto, unfolding(crate::specs::Walk::plain_of))]
+fn plain(bytes: &[u8], value: usize, end: usize, kind: Kind) -> Option<usize>
     requires { (value ≤ end) × (end ≤ length bytes.now) }
     ensures { result ≡ plain_of bytes.now value end kind }
 {
-    if kind == 2 {
-        return string(bytes, value, end);
+    match kind.bson {
+        BsonType::String => string(bytes, value, end),
+        BsonType::Boolean => boolean(bytes, value, end),
+        BsonType::Null => fixed(0, value, end),
+        BsonType::Int32 => fixed(4, value, end),
+        BsonType::Double | BsonType::Int64 => fixed(8, value, end),
+        BsonType::Document | BsonType::Array => None,
     }
-    if kind == 8 {
-        return boolean(bytes, value, end);
-    }
-    if kind == 10 {
-        return fixed(0, value, end);
-    }
-    if kind == 16 {
-        return fixed(4, value, end);
-    }
-    if kind == 1 {
-        return fixed(8, value, end);
-    }
-    if kind == 18 {
-        return fixed(8, value, end);
-    }
-    Skip::Wrong
 }
 
-// An element's type, key and tag, judged in this order.
-fn front(top: bool, bytes: &[u8], at: usize, end: usize, tags: Tags) -> Head
+// What stands before an element's value: its type, its tag and the value's place. Judged by type, key and tag, in this order.
+fn front(
+    top: bool,
+    bytes: &[u8],
+    at: usize,
+    end: usize,
+    tags: Tags,
+) -> Result<(Kind, Tag, usize), Refusal>
     requires { (at < end) × (end ≤ length bytes.now) }
     ensures { result ≡ head_of top bytes.now at end tags }
 {
-    let kind = bytes[at];
-    if !is_read(kind) {
-        return Head::Bad(refusal::TYPE);
-    }
+    let kind = Kind::try_from(bytes[at])?;
     let key = at + 1;
     let stop = lines::find(bytes, key, end, 0);
     if end <= stop {
-        return Head::Bad(refusal::MALFORMED);
+        return Err(Refusal::MALFORMED);
     }
     let value = stop + 1;
     let tag = tag_at(top, bytes, key, stop);
     if does_clash(tags, tag, kind) {
-        return Head::Bad(refusal::TAG);
+        return Err(Refusal::BAD_TAG);
     }
-    Head::Value(kind, tag, value)
+    Ok((kind, tag, value))
 }
 
-fn past_plain(skip: Skip, tag: Tag, value: usize) -> Step
-    ensures { result ≡ plain_step skip tag value }
-{
-    match skip {
-        Skip::To(next) => Step::Next(next, tag, value),
-        Skip::Wrong => Step::Stop(refusal::MALFORMED),
-    }
-}
-
-fn past_nested(walk: Walk, tag: Tag, value: usize) -> Step
-    ensures { result ≡ nested_step walk tag value }
-{
-    match walk {
-        Walk::Past(next, _) => Step::Next(next, tag, value),
-        Walk::Fault(number) => Step::Stop(number),
-    }
-}
-
-// An element of a document that ends at `end`; documents inside it have so many levels left.
+// An element of a document that ends at `end`; documents inside it have so many levels left. The place past it, its tag and its value's place.
 #[cycle(document_element)]
-fn element(bytes: &[u8], at: usize, end: usize, levels: usize, top: bool, tags: Tags) -> Step
+fn element(
+    bytes: &[u8],
+    at: usize,
+    end: usize,
+    levels: usize,
+    top: bool,
+    tags: Tags,
+) -> Result<(usize, Tag, usize), Refusal>
     requires { (at < end) × (end ≤ length bytes.now) }
     ensures result_value { stepped bytes.now tags result ≡ element_of (document_of levels false bytes.now) top bytes.now at end tags }
     ensures step_in { StepIn end result }
 {
-    match front(top, bytes, at, end, tags) {
-        Head::Bad(number) => Step::Stop(number),
-        Head::Value(kind, tag, value) => {
-            if is_nested(kind) {
-                let walk = document(bytes, value, end, levels, false, tags);
-                past_nested(walk, tag, value)
-            } else {
-                let skip = plain(bytes, value, end, kind);
-                past_plain(skip, tag, value)
-            }
-        }
+    let (kind, tag, value) = front(top, bytes, at, end, tags)?;
+    if kind.is_nested() {
+        let (next, _) = document(bytes, value, end, levels, false, tags)?;
+        Ok((next, tag, value))
+    } else {
+        let next = plain(bytes, value, end, kind).ok_or(Refusal::MALFORMED)?;
+        Ok((next, tag, value))
     }
 }
 
-// A document inside what ends at `end`, with so many levels left, its own among them.
+// A document inside what ends at `end`, with so many levels left, its own among them: the place past it and the tags so far.
 #[cycle(document_element)]
-fn document(bytes: &[u8], at: usize, end: usize, levels: usize, top: bool, tags: Tags) -> Walk
+fn document(
+    bytes: &[u8],
+    at: usize,
+    end: usize,
+    levels: usize,
+    top: bool,
+    tags: Tags,
+) -> Result<(usize, Tags), Refusal>
     requires { (at ≤ end) × (end ≤ length bytes.now) }
     ensures { result ≡ document_of levels top bytes.now at end tags }
 {
     let too_deep = levels == 0;
     if too_deep {
-        return Walk::Fault(refusal::DEPTH);
+        return Err(Refusal::TOO_DEEP);
     }
     if end - at < 4 {
-        return Walk::Fault(refusal::MALFORMED);
+        return Err(Refusal::MALFORMED);
     }
-    let size = numbers::le4(bytes, at) as usize;
-    if size < 5 {
-        return Walk::Fault(refusal::MALFORMED);
-    }
-    if end - at < size {
-        return Walk::Fault(refusal::MALFORMED);
+    let size = size_at(bytes, at);
+    if size < 5 || end - at < size {
+        return Err(Refusal::MALFORMED);
     }
     let last = at + size;
     let mut place = at + 4;
     let mut so_far = tags;
+    // No range counts this: each element tells where the next one starts.
     while place < last {
         if bytes[place] == 0 {
             if place + 1 == last {
-                return Walk::Past(last, so_far);
+                return Ok((last, so_far));
             }
-            return Walk::Fault(refusal::MALFORMED);
+            return Err(Refusal::MALFORMED);
         }
-        match element(bytes, place, last, levels - 1, top, so_far) {
-            Step::Next(next, tag, value) => {
-                place = next;
-                so_far = with_tag(bytes, so_far, tag, value);
-            }
-            Step::Stop(number) => return Walk::Fault(number),
-        }
+        let (next, tag, value) = element(bytes, place, last, levels - 1, top, so_far)?;
+        place = next;
+        so_far = with_tag(bytes, so_far, tag, value);
     }
-    Walk::Fault(refusal::MALFORMED)
-}
-
-fn no_tags() -> Tags
-    ensures { result ≡ no_tags }
-{
-    Tags {
-        version: StringTag {
-            found: false,
-            at: 0,
-            length: 0,
-        },
-        hash: HashTag {
-            found: false,
-            value: 0,
-        },
-        mtu: MtuTag {
-            found: false,
-            value: 0,
-        },
-        rejected: ArrayTag {
-            found: false,
-            at: 0,
-            length: 0,
-        },
-    }
-}
-
-fn answered(walk: Walk) -> Payload
-    ensures { result ≡ answer walk }
-{
-    match walk {
-        Walk::Past(_, tags) => Payload::Accepted(tags),
-        Walk::Fault(number) => Payload::Refused(number),
-    }
+    Err(Refusal::MALFORMED)
 }
 
 // A control payload: the bytes behind a control frame's header, all of them. No bytes, no tags.
-pub fn read(bytes: &[u8]) -> Payload
+#[tactic(auto, using(crate::proofs::Outcomes::is_no_tags), unfolding(crate::specs::Walk::payload_of))]
+pub fn read(bytes: &[u8]) -> Result<Tags, Refusal>
     ensures { result ≡ payload_of bytes.now }
 {
     let lent = bytes.len();
     if lent == 0 {
-        return Payload::Accepted(no_tags());
+        return Ok(Tags::default());
     }
-    if lent < 5 {
-        return Payload::Refused(refusal::LENGTH);
+    if lent < 5 || 1024 < lent || size_at(bytes, 0) != lent {
+        return Err(Refusal::BAD_LENGTH);
     }
-    if 1024 < lent {
-        return Payload::Refused(refusal::LENGTH);
-    }
-    if numbers::le4(bytes, 0) as usize == lent {
-        answered(document(bytes, 0, lent, 8, true, no_tags()))
-    } else {
-        Payload::Refused(refusal::LENGTH)
-    }
+    let (_, tags) = document(bytes, 0, lent, 8, true, Tags::default())?;
+    Ok(tags)
 }
 
 // The array of rejectedParams in the bytes that were read: its document. Nothing where there is none.
 pub fn rejected_params(bytes: &[u8], tags: Tags) -> &[u8]
     ensures { result.now ≡ rejected_in bytes.now tags }
 {
-    let start = numbers::least(tags.rejected.at, bytes.len());
-    let end = start + numbers::least(tags.rejected.length, bytes.len() - start);
+    let span = tags.rejected.unwrap_or_default();
+    let start = span.at.min(bytes.len());
+    let end = start + span.length.min(bytes.len() - start);
     &bytes[start..end]
 }

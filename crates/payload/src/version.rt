@@ -1,32 +1,17 @@
 // Version strings: document 01, "Control payloads". Three decimal parts of value 0 to 255, no spare zeros, major at least 1.
-ghost use Rattle.std.specs.Prelude.{◌≡◌, ◌+◌, ◌≤◌, min, length};
-ghost use Rattle.lines.specs.Decimal.{decimal_of};
-ghost use Rattle.payload.specs.Append.{Appended, wrote};
-ghost use Rattle.payload.specs.Version.{spare_zero, part_of, before_dot, after_dot, version_from, version_of, version_text, write_version_of, at_most, lesser_of};
+ghost use Rattle.std.specs.Prelude.{◌≡◌, ◌+◌, ◌≤◌, length};
+ghost use Rattle.payload.specs.Append.{wrote};
+ghost use Rattle.payload.specs.Version.{spare_zero, part_of, before_dot, after_dot, version_of, version_text, write_version_of, lesser_of};
 
-use crate::append::{OUT_OF_RANGE, OUT_TOO_SMALL, Written, put_byte};
+use crate::draft::Draft;
+use figures::refusal::Refusal;
 
-#[derive(Clone, Copy)]
+// The fields stand in the order in which versions are compared.
+#[derive(Clone, Copy, Debug, PartialEq, Eq, PartialOrd, Ord)]
 pub struct Version {
     pub major: u8,
     pub minor: u8,
     pub patch: u8,
-}
-
-// What a text says.
-#[derive(Clone, Copy)]
-pub enum VersionText {
-    Good(Version),
-    Bad,
-}
-
-// More than any part may say.
-const NO_PART: u64 = 256;
-
-fn least(a: u64, b: u64) -> u64
-    ensures { result ≡ min a b }
-{
-    if a < b { a } else { b }
 }
 
 // Whether a zero stands in front of other characters.
@@ -39,18 +24,16 @@ fn spare_zero(text: &[u8]) -> bool
     text[0] == b'0'
 }
 
-// What a part says; 256 where it says no number from 0 to 255, or says it with spare zeros.
-fn part(text: &[u8]) -> u64
+// What a part says: a number from 0 to 255 with no spare zeros.
+#[tactic(auto, unfolding(crate::specs::Version::part_of))]
+fn part(text: &[u8]) -> Option<u8>
     ensures { result ≡ part_of text.now }
 {
     if spare_zero(text) {
-        return NO_PART;
+        return None;
     }
-    match lines::decimal_to_number(text) {
-        lines::Number::Value(n) => least(n, NO_PART),
-        lines::Number::NotDecimal => NO_PART,
-        lines::Number::TooLarge => NO_PART,
-    }
+    let number = lines::decimal_to_number(text).ok()?;
+    u8::try_from(number).ok()
 }
 
 // The text before the first dot: all of it where there is none.
@@ -73,116 +56,66 @@ fn after_dot(text: &[u8]) -> &[u8]
     &text[dot + 1..end]
 }
 
-// The version of three parts.
-fn from_parts(major: u64, minor: u64, patch: u64) -> VersionText
-    ensures { result ≡ version_from major minor patch }
-{
-    if major == 0 {
-        return VersionText::Bad;
-    }
-    if 255 < major {
-        return VersionText::Bad;
-    }
-    if 255 < minor {
-        return VersionText::Bad;
-    }
-    if 255 < patch {
-        return VersionText::Bad;
-    }
-    VersionText::Good(Version {
-        major: major as u8,
-        minor: minor as u8,
-        patch: patch as u8,
-    })
-}
-
-// The version that a text says.
-pub fn read(text: &[u8]) -> VersionText
+// The version that a text says. None has a major of 0.
+#[tactic(auto, unfolding(crate::specs::Version::version_of, crate::specs::Version::version_from))]
+pub fn read(text: &[u8]) -> Option<Version>
     ensures { result ≡ version_of text.now }
 {
     let rest = after_dot(text);
-    let major = part(before_dot(text));
-    let minor = part(before_dot(rest));
-    let patch = part(after_dot(rest));
-    from_parts(major, minor, patch)
+    let major = part(before_dot(text))?;
+    let minor = part(before_dot(rest))?;
+    let patch = part(after_dot(rest))?;
+    if major == 0 {
+        return None;
+    }
+    Some(Version {
+        major,
+        minor,
+        patch,
+    })
 }
 
-// How many digits a part has.
-fn width(n: u8) -> usize
-    ensures { (result ≡ length (decimal_of n)) × (result ≤ 3) }
-{
-    if n < 10 {
-        return 1;
+impl Version {
+    // Its string: 5 to 11 bytes.
+    pub(crate) fn text(self) -> Draft
+        ensures value { result ≡ version_text self }
+        ensures bound { length result ≤ 11 }
+    {
+        let mut text = Draft::new();
+        text.decimal(self.major);
+        text.byte(b'.');
+        text.decimal(self.minor);
+        text.byte(b'.');
+        text.decimal(self.patch);
+        text
     }
-    if n < 100 {
-        return 2;
-    }
-    3
 }
 
 // How many bytes a version's string has: 5 to 11.
 pub fn size(version: Version) -> usize
     ensures { (result ≡ length (version_text version)) × (result ≤ 11) }
 {
-    width(version.major) + width(version.minor) + width(version.patch) + 2
-}
-
-// A part's digits into out from at on.
-fn put_part(n: u8, at: usize, out: &mut [u8]) -> usize
-    requires { at + length (decimal_of n) ≤ length out.old }
-    ensures { Appended at (decimal_of n) out.old result out.new }
-{
-    let end = at + width(n);
-    lines::number_to_decimal(n as u64, &mut out[at..end]);
-    end
-}
-
-// A version's string into out from at on.
-pub(crate) fn put(version: Version, at: usize, out: &mut [u8]) -> usize
-    requires { at + length (version_text version) ≤ length out.old }
-    ensures { Appended at (version_text version) out.old result out.new }
-{
-    let past_major = put_part(version.major, at, out);
-    let minor = put_byte(b'.', past_major, out);
-    let past_minor = put_part(version.minor, minor, out);
-    let patch = put_byte(b'.', past_minor, out);
-    put_part(version.patch, patch, out)
+    let text = version.text();
+    text.as_slice().len()
 }
 
 // A version's string to the front of out. No string says a major of 0.
-pub fn write(version: Version, out: &mut [u8]) -> Written
+pub fn write(version: Version, out: &mut [u8]) -> Result<usize, Refusal>
     ensures { wrote result out.new ≡ write_version_of version out.old }
 {
-    if version.major < 1 {
-        return Written::Refused(OUT_OF_RANGE);
+    // as in lib.rt, a name of its own for what is judged
+    let unsaid = version.major < 1;
+    if unsaid {
+        return Err(Refusal::BAD_SETTINGS);
     }
-    let end = size(version);
-    if out.len() < end {
-        return Written::Refused(OUT_TOO_SMALL);
-    }
-    put(version, 0, out);
-    Written::Bytes(end)
-}
-
-// Whether a comes before b or is b: by major, then minor, then patch.
-fn at_most(a: Version, b: Version) -> bool
-    ensures { result ≡ at_most a b }
-{
-    if a.major != b.major {
-        return a.major < b.major;
-    }
-    if a.minor != b.minor {
-        return a.minor < b.minor;
-    }
-    a.patch <= b.patch
+    let text = version.text();
+    text.write(out)
 }
 
 // The lesser of two versions.
+#[tactic(auto, using(crate::proofs::VersionOrder::lesser_min))]
 pub fn lesser(a: Version, b: Version) -> Version
     ensures { result ≡ lesser_of a b }
 {
-    if at_most(a, b) {
-        return a;
-    }
-    b
+    a.min(b)
 }

@@ -7,7 +7,7 @@ ghost use Rattle.blocks.specs.Map.{needed_for, held_by, claimed, looked_for, rel
 ghost use Rattle.blocks.specs.Pool.{appended, delivered};
 ghost use Rattle.room.specs.Room.{place_in};
 
-use blocks::{Found, Owner};
+use blocks::Owner;
 
 #[unsafe(no_mangle)]
 pub extern "C" fn tilambok_room_needed(total: usize) -> usize
@@ -70,8 +70,5 @@ pub extern "C" fn tilambok_room_deliver(
 pub extern "C" fn tilambok_room_block(map: &[u8], owner: u8, n: usize) -> usize
     ensures { result ≡ place_in owner n map.now }
 {
-    match blocks::nth_block(map, Owner(owner), n) {
-        Found::Block(block) => block.0,
-        Found::Missing => map.len(),
-    }
+    blocks::nth_block(map, Owner(owner), n).map_or(map.len(), |block| block.0)
 }

@@ -8,6 +8,7 @@ use native.Mathlib.Omega.{arith}
 use lib.Dec.{eqb, leb}
 use lib.ListN.{length}
 use borrow.Author.Tests.{eq-eqb, ne_eqb, le-leb, lt-leb, leb-true, leb-false, eqb-true, eqb-false}
+use Rattle.std.specs.Prelude.{Result, Ok, Err}
 use Rattle.numbers.proofs.Choices.{either, unless_elim}
 use Rattle.frame.specs.Rules.{known_version}
 use Rattle.rpc.specs.Rules.{is_rpc, is_bare, kind_fits, id_fits, may_end, fault_of}
@@ -18,13 +19,13 @@ use Rattle.rpc.specs.declared.Form.{Form}
 use Rattle.rpc.specs.declared.Fields.{Fields}
 use Rattle.rpc.specs.declared.Header.{Header}
 use Rattle.rpc.specs.declared.Parts.{Parts}
-use Rattle.rpc.specs.declared.Reading.{Reading}
-use Rattle.rpc.specs.declared.Reading.TheVariants.{Message, Bare, Refused}
+use Rattle.rpc.specs.declared.Content.{Content}
+use Rattle.rpc.specs.declared.Content.TheVariants.{Message, Bare}
 
 -- the two ways of a payload of 12 bytes or more; f and n are what code made of it
 module _ (form : Form) (s : List ℕ) (n : ℕ) (f : Fields) where
   pub message_refused : f ≡ fields_in form s → n ≡ fault_of form f (leb f.size (length s - 12)) (leb (length s - 12) f.size) → (n ≡ 0 → ⊥)
-      → Refused n ≡ message_in form s
+      → Err n ≡ message_in form s
   unfolding message_in
   message_refused e g h =
       let k : n ≡ fault_in form s = rw e at g in
@@ -32,7 +33,7 @@ module _ (form : Form) (s : List ℕ) (n : ℕ) (f : Fields) where
 
   pub message_read : (h : Header) → f ≡ fields_in form s → n ≡ fault_of form f (leb f.size (length s - 12)) (leb (length s - 12) f.size) → n ≡ 0
       → h ≡ header_of form f
-      → Message h f.size (parts_of s f.size) ≡ message_in form s
+      → Ok (Message h f.size (parts_of s f.size)) ≡ message_in form s
   unfolding message_in
   message_read h e g z i =
       let k : fault_in form s ≡ 0 = sym (rw e at g) ∙ z in
@@ -41,7 +42,7 @@ module _ (form : Form) (s : List ℕ) (n : ℕ) (f : Fields) where
 
 -- the reader's other ways, each from its tests
 module _ (form : Form) (version : ℕ) (s : List ℕ) where
-  pub read_bare : known_version version ≡ true → is_bare form version ≡ true → read_of form version s ≡ Bare (bare_parts s)
+  pub read_bare : known_version version ≡ true → is_bare form version ≡ true → read_of form version s ≡ Ok (Bare (bare_parts s))
   unfolding read_of
   read_bare k b = rw (k, b)
 
@@ -63,10 +64,10 @@ pub record IsBare (form : Form) (version : ℕ) (s : List ℕ) (p : Parts) : Typ
   pub bare : is_bare form version ≡ true
   pub parts : p ≡ bare_parts s
 
-abbrev pub Says : Form → ℕ → List ℕ → Reading → Type 0
-Says form version s (Message h size p) = IsMessage form version s h size p
-Says form version s (Bare p) = IsBare form version s p
-Says form version s (Refused n) = Reason form version s n
+abbrev pub Says : Form → ℕ → List ℕ → Result Content ℕ → Type 0
+Says form version s (Ok (Message h size p)) = IsMessage form version s h size p
+Says form version s (Ok (Bare p)) = IsBare form version s p
+Says form version s (Err n) = Reason form version s n
 
 ends_not : (form : Form) (b : Bool) → may_end form b ≡ false → (b ≡ false) × (is_rpc form ≡ true)
 ends_not form b e = apart b (is_rpc form) e
@@ -94,32 +95,32 @@ module _ (form : Form) (version : ℕ) (s : List ℕ) (j : Judged form version) 
   message_says : Says form version s (message_in form s)
   unfolding message_in
   message_says =
-      unless_elim (Says form version s) (eqb (fault_in form s) 0) (Refused (fault_in form s)) _ (λ t. fault_says (eqb-false (fault_in form s) 0 t))
+      unless_elim (Says form version s) (eqb (fault_in form s) 0) (Err (fault_in form s)) _ (λ t. fault_says (eqb-false (fault_in form s) 0 t))
       (λ t. record { judged = j; long = l; sound = eqb-true (fault_in form s) 0 t; header = refl; sized = refl; parts = refl })
 
 pub read_says : (form : Form) (version : ℕ) (s : List ℕ) → Says form version s (read_of form version s)
 unfolding read_of
 read_says form version s =
-    unless_elim (Says form version s) (known_version version) (Refused 1) _ unknown λ k.
-    either (Says form version s) (is_bare form version) (Bare (bare_parts s)) _ (λ b. record { known = k; bare = b; parts = refl }) λ b.
+    unless_elim (Says form version s) (known_version version) (Err 1) _ unknown λ k.
+    either (Says form version s) (is_bare form version) (Ok (Bare (bare_parts s))) _ (λ b. record { known = k; bare = b; parts = refl }) λ b.
     let j : Judged form version = record { known = k; headed = b } in
-    unless_elim (Says form version s) (leb 12 (length s)) (Refused 40) (message_in form s) (λ t. short j (leb-false 12 (length s) t))
+    unless_elim (Says form version s) (leb 12 (length s)) (Err 40) (message_in form s) (λ t. short j (leb-false 12 (length s) t))
     (λ t. message_says form version s j (leb-true 12 (length s) t))
 
-pub is_message : (form : Form) (version : ℕ) (s : List ℕ) (h : Header) (size : ℕ) (p : Parts) → read_of form version s ≡ Message h size p
+pub is_message : (form : Form) (version : ℕ) (s : List ℕ) (h : Header) (size : ℕ) (p : Parts) → read_of form version s ≡ Ok (Message h size p)
     → IsMessage form version s h size p
 is_message form version s h size p e = subst (Says form version s) e (read_says form version s)
 
-pub is_bare_lem : (form : Form) (version : ℕ) (s : List ℕ) (p : Parts) → read_of form version s ≡ Bare p → IsBare form version s p
+pub is_bare_lem : (form : Form) (version : ℕ) (s : List ℕ) (p : Parts) → read_of form version s ≡ Ok (Bare p) → IsBare form version s p
 is_bare_lem form version s p e = subst (Says form version s) e (read_says form version s)
 
 -- a fault is the answer
 fault_given : (form : Form) (version : ℕ) (s : List ℕ) (n : ℕ) → Judged form version → 12 ≤ length s → fault_in form s ≡ n → (n ≡ 0 → ⊥)
-    → read_of form version s ≡ Refused n
+    → read_of form version s ≡ Err n
 fault_given form version s n j l e z =
     read_judged form version s j l ∙ sym (message_refused form s n (fields_in form s) refl (sym e) z)
 
-reason_given : (form : Form) (version : ℕ) (s : List ℕ) (n : ℕ) → Reason form version s n → read_of form version s ≡ Refused n
+reason_given : (form : Form) (version : ℕ) (s : List ℕ) (n : ℕ) → Reason form version s n → read_of form version s ≡ Err n
 unfolding read_of fault_of
 reason_given form version s n (unknown k) = rw k
 reason_given form version s n (short j l) = rw (j.known, j.headed, lt-leb 12 (length s) l)

@@ -1,26 +1,22 @@
--- The writer's laws: the 12 bytes and what follows them, laid piece by piece, and each answer from its tests.
+-- The writer's laws: the 12 bytes and what follows them, laid piece by piece.
 -- Assumes nothing.
-use Prim.Native.Nat.{ℕ, ◌+◌, ◌-◌, ◌*◌, ◌≤◌, ◌<◌}
-use mathlib.Core.Path.{◌≡◌, refl, ap, ◌∙◌, sym}
+use Prim.Native.Nat.{ℕ, ◌+◌, ◌-◌, ◌*◌, ◌≤◌}
+use mathlib.Core.Path.{◌≡◌, refl, ap, ◌∙◌}
 use mathlib.Core.List.{List, [], ◌++◌}
 use native.Mathlib.Omega.{arith}
-use lib.Dec.{eqb}
 use lib.ListN.{length, length-append}
 use borrow.Rule.Slice.PartMut.{put_mid}
-use borrow.Author.Tests.{eq-eqb, ne_eqb, le-leb, lt-leb, eqb-true}
 use Rattle.numbers.specs.Bytes.{put_at, laid}
 use Rattle.numbers.specs.Numbers.{bytes_be}
 use Rattle.numbers.proofs.Laws.{length_be}
-use Rattle.frame.specs.Write.{wrote}
-use Rattle.frame.specs.declared.Written.TheVariants.{Bytes, Refused}
 use Rattle.frame.proofs.Buffers.{number_put, bytes_put}
-use Rattle.rpc.specs.Rules.{id_span, fault_of}
+use Rattle.rpc.specs.Rules.{id_span}
 use Rattle.rpc.specs.Layout.{layout_bytes, form_in, fields_of}
-use Rattle.rpc.specs.Write.{message_bytes, fault_for, whole_of, bare_of}
+use Rattle.rpc.specs.Write.{message_bytes}
 use Rattle.rpc.specs.declared.Form.{Form}
 use Rattle.rpc.specs.declared.Fields.{Fields}
 use Rattle.rpc.specs.declared.Header.{Header}
-use Rattle.rpc.proofs.Forms.{Sound, no_fault}
+use Rattle.rpc.proofs.Forms.{no_fault}
 
 -- so many bytes the header has, and the header with the JSON
 three_length : (x y z : ℕ) → length (bytes_be 4 x ++ bytes_be 4 y ++ bytes_be 4 z) ≡ 12
@@ -58,39 +54,5 @@ message_length h size json bulk =
     length-append (layout_bytes (form_in h) (fields_of h size) ++ json) bulk
     ∙ ap (λ (n : ℕ). n + length bulk) (front_length (form_in h) (fields_of h size) json)
 
--- the three ways of a message with a header; form, f and n are what code made of it
-module _ (h : Header) (size n : ℕ) (json bulk out : List ℕ) (form : Form) (f : Fields) (i : form ≡ form_in h) (j : f ≡ fields_of h size)
-    (k : n ≡ fault_of form f (eqb size (length json)) (eqb (length bulk) 0)) where
-  told : n ≡ fault_for h size json bulk
-  told = rw (i, j) at k
-
-  pub whole_refused : (n ≡ 0 → ⊥) → wrote (Refused n) out ≡ whole_of h size json bulk out
-  unfolding whole_of
-  whole_refused z = rw (← told, ne_eqb n 0 z)
-
-  pub whole_sound : n ≡ 0 → Sound form f (eqb size (length json)) (eqb (length bulk) 0)
-  whole_sound z = no_fault form f (eqb size (length json)) (eqb (length bulk) 0) (sym k ∙ z)
-
-  pub whole_sized : n ≡ 0 → size ≡ length json
-  whole_sized z = eqb-true size (length json) (whole_sound z).size
-
-  pub whole_small : n ≡ 0 → length out < 12 + length json + length bulk → wrote (Refused 11) out ≡ whole_of h size json bulk out
-  unfolding whole_of
-  whole_small z s = rw (← told, eq-eqb n 0 z, message_length h size json bulk, lt-leb (12 + length json + length bulk) (length out) s)
-
-  pub whole_put : (q : List ℕ) → n ≡ 0 → 12 + length json + length bulk ≤ length out → q ≡ laid (layout_bytes form f ++ json ++ bulk) out
-      → wrote (Bytes (12 + length json + length bulk)) q ≡ whole_of h size json bulk out
-  unfolding whole_of
-  whole_put q z s e =
-      let g : q ≡ laid (message_bytes h size json bulk) out = rw (i, j) at e in
-      ap (wrote (Bytes (12 + length json + length bulk))) g
-      ∙ rw (← told, eq-eqb n 0 z, message_length h size json bulk, le-leb (12 + length json + length bulk) (length out) s)
-
--- version 1's RPC: the JSON is copied to the front
-pub bare_put : (json bulk out q r : List ℕ) → length bulk ≡ 0 → length json ≤ length out → r ≡ json → q ≡ put_mid 0 (length json - 0) out r
-    → wrote (Bytes (length json)) q ≡ bare_of json bulk out
-unfolding bare_of
-bare_put json bulk out q r z s c e =
-    let n : length json - 0 ≡ length json = omega arith in
-    let g : q ≡ laid json out = e ∙ rw (n, c) in
-    ap (wrote (Bytes (length json))) g ∙ rw (eq-eqb (length bulk) 0 z, le-leb (length json) (length out) s)
+-- what the check needs to know of a message with a header
+pub ruleset whole = (message_length, no_fault)

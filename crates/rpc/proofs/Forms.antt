@@ -1,17 +1,17 @@
 -- The laws of specs/Rules: what the forms' values leave room for, and what a message without fault says.
 -- Assumes nothing.
 use Prim.Native.Nat.{ℕ, ◌+◌, ◌*◌, ◌/◌, ◌^◌, ◌≤◌, ◌<◌}
-use mathlib.Core.Path.{◌≡◌, refl, ap, ◌∙◌, sym}
-use mathlib.Core.Bool.{Bool, true, false, ◌&&◌, ◌||◌}
+use mathlib.Core.Path.{◌≡◌, refl, ap}
+use mathlib.Core.Bool.{Bool, true, false, ◌||◌}
 use mathlib.Core.List.{[], ◌∷◌}
 use native.Mathlib.Omega.{arith}
 use lib.Dec.{eqb, leb, ltb}
 use borrow.Author.Tests.{leb-true, ltb-true, eqb-true}
 use Rattle.numbers.specs.Bytes.{pick}
-use Rattle.numbers.proofs.Choices.{split, either}
+use Rattle.numbers.proofs.Choices.{either}
 use Rattle.frame.specs.Rules.{is_in}
 use Rattle.frame.proofs.Laws.{passed}
-use Rattle.rpc.specs.Rules.{is_query, id_span, kind_fits, id_fits, may_end, size_fault, fault_of}
+use Rattle.rpc.specs.Rules.{is_query, id_span, kind_fits, id_fits, may_end, fault_of}
 use Rattle.rpc.specs.declared.Form.{Form}
 use Rattle.rpc.specs.declared.Fields.{Fields}
 
@@ -85,26 +85,3 @@ no_fault form f sized ends e =
 pub sound_none : (form : Form) (f : Fields) (sized ends : Bool) → Sound form f sized ends → fault_of form f sized ends ≡ 0
 unfolding fault_of
 sound_none form f sized ends s = rw (s.kind, s.id, s.size, s.end)
-
--- a fault of the header is the message's, whatever the sizes are; without one the message's is that of the sizes
-pub fault_early : (form : Form) (f : Fields) (sized ends : Bool) (n : ℕ) → n ≡ fault_of form f true true → (n ≡ 0 → ⊥) → n ≡ fault_of form f sized ends
-unfolding fault_of
-fault_early form f sized ends n e z =
-    split (kind_fits form f.kind)
-    (λ k. split (id_fits form f.id) (λ i. absurd (z (e ∙ rw (k, i)))) (λ i. e ∙ rw (k, i)))
-    (λ k. e ∙ rw k)
-
-pub fault_late : (form : Form) (f : Fields) (sized ends : Bool) (n m : ℕ) → n ≡ fault_of form f true true → n ≡ 0 → m ≡ size_fault form sized ends
-    → m ≡ fault_of form f sized ends
-unfolding fault_of
-fault_late form f sized ends n m e z g =
-    let s = no_fault form f true true (sym e ∙ z) in
-    rw (s.kind, s.id) g
-
-pub and_true : (b : Bool) → b ≡ b && true
-and_true true = refl
-and_true false = refl
-
-pub and_false : (b : Bool) → false ≡ b && false
-and_false true = refl
-and_false false = refl

@@ -9,13 +9,13 @@ use lib.Dec.{eqb, leb}
 use lib.ListN.{length, take, drop, length-append, length-drop, take-append-drop}
 use lib.Seq.{take_at, drop_at, take-add, drop-drop, take_all, length-take-le}
 use borrow.Author.Tests.{eq-eqb, le-leb, lt-leb, eqb-true, eqb-false, leb-true}
+use Rattle.std.specs.Prelude.{Ok, Err}
 use Rattle.numbers.specs.Bytes.{part, pick, AreBytes, laid}
 use Rattle.numbers.specs.Numbers.{value_be, bytes_be}
 use Rattle.numbers.proofs.Laws.{length_be, read_written_be, written_read_be, bytes_take, bytes_drop}
 use Rattle.numbers.proofs.Choices.{split, either, unless_elim, and_both, and_yes}
 use Rattle.frame.specs.Rules.{known_version}
 use Rattle.frame.specs.Write.{Wrote, wrote, put_of}
-use Rattle.frame.specs.declared.Written.TheVariants as written
 use Rattle.frame.proofs.ThereAndBack.{not_done, put_told}
 use Rattle.rpc.specs.Rules.{is_rpc, is_query, is_bare, id_span, kind_fits, id_fits, fault_of}
 use Rattle.rpc.specs.Layout.{layout_bytes, fields_in, header_of, form_in, fields_of}
@@ -28,7 +28,7 @@ use Rattle.rpc.specs.declared.Fields.{Fields}
 use Rattle.rpc.specs.declared.Header.{Header}
 use Rattle.rpc.specs.declared.Header.TheVariants.{OfRpc, OfBulk, OfQuery}
 use Rattle.rpc.specs.declared.Parts.{Parts}
-use Rattle.rpc.specs.declared.Reading.TheVariants.{Message, Bare}
+use Rattle.rpc.specs.declared.Content.TheVariants.{Message, Bare}
 use Rattle.rpc.proofs.Forms.{word_fits, id_below, Sound, no_fault, sound_none}
 use Rattle.rpc.proofs.Buffers.{layout_length, message_length}
 use Rattle.rpc.proofs.Answers.{message_read, read_bare, read_judged, is_message, is_bare_lem}
@@ -149,12 +149,12 @@ module _ (version : ℕ) (h : Header) (size : ℕ) (json bulk : List ℕ) (j : J
         end = rw e sound.end;
       }
 
-  written_read : read_of (form_in h) version (message_bytes h size json bulk) ≡ Message h size (parts_of (message_bytes h size json bulk) size)
+  written_read : read_of (form_in h) version (message_bytes h size json bulk) ≡ Ok (Message h size (parts_of (message_bytes h size json bulk) size))
   written_read =
       let s : List ℕ = message_bytes h size json bulk in
       let f : Fields = fields_of h size in
       let l : 12 ≤ length s = omega (arith, message_length h size json bulk) in
-      let m : Message h f.size (parts_of s f.size) ≡ message_in (form_in h) s
+      let m : Ok (Message h f.size (parts_of s f.size)) ≡ message_in (form_in h) s
       = message_read (form_in h) s 0 f h (sym written_fields) (rw (size_same h size) (sym written_fault)) refl (sym (header_back h size)) in
       read_judged (form_in h) version s j l ∙ sym (rw (size_same h size) at m)
 
@@ -193,18 +193,18 @@ bare_back version h size json bulk k b e =
 -- from the writer's own answer
 module _ (version : ℕ) (h : Header) (size n : ℕ) (json bulk out left : List ℕ) where
   abbrev Back : Wrote → Type 0
-  Back w = w ≡ wrote (written.Bytes n) left → ReadsAs version (take n left) h size json bulk
+  Back w = w ≡ wrote (Ok n) left → ReadsAs version (take n left) h size json bulk
 
   from_bare : known_version version ≡ true → is_bare (form_in h) version ≡ true → Back (bare_of json bulk out)
   unfolding bare_of
   from_bare k b =
-      unless_elim Back (eqb (length bulk) 0) (wrote (written.Refused 44) out) (put_of json out) (λ t d. absurd (not_done 44 out left n d))
+      unless_elim Back (eqb (length bulk) 0) (wrote (Err 44) out) (put_of json out) (λ t d. absurd (not_done 44 out left n d))
       (λ t d. rw (put_told json out left n d) (bare_back version h size json bulk k b (eqb-true (length bulk) 0 t)))
 
   from_whole : Judged (form_in h) version → AreU32 h size → Back (whole_of h size json bulk out)
   unfolding whole_of
   from_whole j u =
-      unless_elim Back (eqb (fault_for h size json bulk) 0) (wrote (written.Refused (fault_for h size json bulk)) out)
+      unless_elim Back (eqb (fault_for h size json bulk) 0) (wrote (Err (fault_for h size json bulk)) out)
       (put_of (message_bytes h size json bulk) out)
       (λ t d. absurd (not_done (fault_for h size json bulk) out left n d))
       (λ t d. rw (put_told (message_bytes h size json bulk) out left n d) (whole_back version h size json bulk j u (eqb-true (fault_for h size json bulk) 0 t)))
@@ -212,7 +212,7 @@ module _ (version : ℕ) (h : Header) (size n : ℕ) (json bulk out left : List 
   from_write : AreU32 h size → Back (write_of version h size json bulk out)
   unfolding write_of
   from_write u =
-      unless_elim Back (known_version version) (wrote (written.Refused 1) out) _ (λ t d. absurd (not_done 1 out left n d)) λ k.
+      unless_elim Back (known_version version) (wrote (Err 1) out) _ (λ t d. absurd (not_done 1 out left n d)) λ k.
       either Back (is_bare (form_in h) version) (bare_of json bulk out) (whole_of h size json bulk out) (λ b. from_bare k b)
       (λ b. from_whole (record { known = k; headed = b }) u)
 
@@ -222,7 +222,7 @@ written_read_back version h size n json bulk out left u e = from_write version h
 -- ---- what was read
 
 -- the parts of a payload that was read, by the reader's own numbers
-module _ (form : Form) (version : ℕ) (s : List ℕ) (h : Header) (size : ℕ) (p : Parts) (e : read_of form version s ≡ Message h size p) where
+module _ (form : Form) (version : ℕ) (s : List ℕ) (h : Header) (size : ℕ) (p : Parts) (e : read_of form version s ≡ Ok (Message h size p)) where
   parts_are : p ≡ parts_of s size
   parts_are = let q = is_message form version s h size p e in rw q.sized q.parts
 
@@ -272,7 +272,7 @@ module _ (form : Form) (version : ℕ) (s : List ℕ) (h : Header) (size : ℕ) 
       rw (a, j, k, append_assoc, take-append-drop size (drop 12 s)) (take-append-drop 12 s)
 
   written_again : (out : List ℕ) → AreBytes s → length s ≤ length out
-      → write_of version h size (json_part s p) (bulk_part s p) out ≡ wrote (written.Bytes (length s)) (laid s out)
+      → write_of version h size (json_part s p) (bulk_part s p) out ≡ wrote (Ok (length s)) (laid s out)
   unfolding write_of whole_of
   written_again out b room =
       let q = is_message form version s h size p e in
@@ -287,7 +287,7 @@ bare_any : (form : Form) (version : ℕ) → is_rpc form ≡ true → eqb versio
 unfolding is_bare
 bare_any form version r v = and_yes (is_rpc form) (eqb version 1) r v
 
-module _ (form : Form) (version : ℕ) (s : List ℕ) (p : Parts) (e : read_of form version s ≡ Bare p) where
+module _ (form : Form) (version : ℕ) (s : List ℕ) (p : Parts) (e : read_of form version s ≡ Ok (Bare p)) where
   bare_json : json_part s p ≡ s
   bare_json =
       let n : length s - 0 ≡ length s = omega arith in
@@ -299,7 +299,7 @@ module _ (form : Form) (version : ℕ) (s : List ℕ) (p : Parts) (e : read_of f
       rw ((is_bare_lem form version s p e).parts, n)
 
   bare_again : (h : Header) (size : ℕ) (out : List ℕ) → is_rpc (form_in h) ≡ true → length s ≤ length out
-      → write_of version h size (json_part s p) (bulk_part s p) out ≡ wrote (written.Bytes (length s)) (laid s out)
+      → write_of version h size (json_part s p) (bulk_part s p) out ≡ wrote (Ok (length s)) (laid s out)
   unfolding write_of bare_of
   bare_again h size out r room =
       let q = is_bare_lem form version s p e in

@@ -1,13 +1,11 @@
 -- What the three forms differ in, and the refusals 41 to 44: document 02, request A1.
 -- Assumes nothing.
-use Rattle.std.specs.Prelude.{ℕ, ◌^◌, Bool, true, false, ◌&&◌, ◌||◌, not, [], ◌∷◌, eqb, leb, ltb}
+use Rattle.std.specs.Prelude.{ℕ, ◌^◌, Bool, true, false, ◌&&◌, ◌||◌, not, [], ◌∷◌, Option, Some, None, eqb, leb, ltb}
 use Rattle.numbers.specs.Bytes.{pick, unless}
 use Rattle.frame.specs.declared.ServiceType.{ServiceType}
 use Rattle.frame.specs.Rules.{is_in}
 use Rattle.rpc.specs.declared.Form.{Form}
 use Rattle.rpc.specs.declared.Form.TheVariants.{Rpc, Bulk, Query}
-use Rattle.rpc.specs.declared.Carried.{Carried}
-use Rattle.rpc.specs.declared.Carried.TheVariants.{InForm, Nothing}
 use Rattle.rpc.specs.declared.Fields.{Fields}
 
 abbrev pub is_rpc : Form → Bool
@@ -21,8 +19,8 @@ is_query Bulk = false
 is_query Query = true
 
 -- document 01: "Services: 00, 07 RPC, 0A audio, 0B video, 0F bulk (hex)"; queries come on 00, and audio and video carry no such payload
-unfoldable pub form_of : ServiceType → Carried
-form_of s = pick (eqb s.0 0x07) (InForm Rpc) (pick (eqb s.0 0x0F) (InForm Bulk) (pick (eqb s.0 0x00) (InForm Query) Nothing))
+unfoldable pub form_of : ServiceType → Option Form
+form_of s = pick (eqb s.0 0x07) (Some Rpc) (pick (eqb s.0 0x0F) (Some Bulk) (pick (eqb s.0 0x00) (Some Query) None))
 
 -- "At version 1 RPC alone has no such header: its payload is all JSON"
 unfoldable pub is_bare : Form → ℕ → Bool

@@ -1,10 +1,9 @@
 -- The writer: header, JSON and bulk data to the front of a buffer. Document 02, request A1.
 -- Assumes nothing.
-use Rattle.std.specs.Prelude.{ℕ, List, ◌++◌, eqb, length}
+use Rattle.std.specs.Prelude.{ℕ, List, ◌++◌, Err, eqb, length}
 use Rattle.numbers.specs.Bytes.{pick, unless}
 use Rattle.frame.specs.Rules.{known_version}
 use Rattle.frame.specs.Write.{Wrote, wrote, put_of}
-use Rattle.frame.specs.declared.Written.TheVariants.{Refused}
 use Rattle.rpc.specs.Rules.{is_bare, fault_of}
 use Rattle.rpc.specs.Layout.{layout_bytes, form_in, fields_of}
 use Rattle.rpc.specs.declared.Header.{Header}
@@ -20,14 +19,14 @@ fault_for h size json bulk = fault_of (form_in h) (fields_of h size) (eqb size (
 -- 41 to 44, then 11
 unfoldable pub whole_of : Header → ℕ → List ℕ → List ℕ → List ℕ → Wrote
 whole_of h size json bulk out =
-    unless (eqb (fault_for h size json bulk) 0) (wrote (Refused (fault_for h size json bulk)) out) (put_of (message_bytes h size json bulk) out)
+    unless (eqb (fault_for h size json bulk) 0) (wrote (Err (fault_for h size json bulk)) out) (put_of (message_bytes h size json bulk) out)
 
 -- version 1's RPC: "its payload is all JSON, 40 to 43 don't apply", 44 and 11 do
 unfoldable pub bare_of : List ℕ → List ℕ → List ℕ → Wrote
-bare_of json bulk out = unless (eqb (length bulk) 0) (wrote (Refused 44) out) (put_of json out)
+bare_of json bulk out = unless (eqb (length bulk) 0) (wrote (Err 44) out) (put_of json out)
 
 -- "The writer gives 1, 41, 42, then 43 .., 44 .., then 11."
 unfoldable pub write_of : ℕ → Header → ℕ → List ℕ → List ℕ → List ℕ → Wrote
 write_of version h size json bulk out =
-    unless (known_version version) (wrote (Refused 1) out)
+    unless (known_version version) (wrote (Err 1) out)
     (pick (is_bare (form_in h) version) (bare_of json bulk out) (whole_of h size json bulk out))

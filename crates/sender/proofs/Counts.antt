@@ -5,16 +5,36 @@ use mathlib.Core.Path.{◌≡◌, refl, ap, ◌∙◌, sym}
 use mathlib.Core.Bool.{Bool, true, false}
 use mathlib.Core.List.{List}
 use native.Mathlib.Omega.{arith}
-use native.Mathlib.Nat.{add-div_right, div-add-mod', mod-lt, mul-le-mul_right, suc-mul}
-use lib.Dec.{leb}
+use native.Mathlib.Nat.{add-div_right, add-mul-div_right, div-eq_of_lt, div-add-mod', mod-lt, mul-le-mul_right, suc-mul}
+use lib.Dec.{eqb, leb}
 use lib.ListN.{length, take, drop, length-take, length-drop}
 use lib.Seq.{take-add, take_all}
-use borrow.Author.Tests.{leb-true, leb-false}
+use borrow.Author.Tests.{leb-true, leb-false, eqb-true, eqb-false}
 use Rattle.numbers.specs.Bytes.{part}
 use Rattle.numbers.proofs.Choices.{and_both}
 use Rattle.frame.specs.Rules.{largest}
 use Rattle.sender.specs.declared.Outgoing.{Outgoing}
 use Rattle.sender.specs.Sender.{chunk_fits, fits_one, count_of, chunk_of, joined}
+
+-- rounded up, as the library says it and as document 01 does
+pub rounded_up : (x y : ℕ) → 1 ≤ y → x / y + min 1 (x % y) ≡ (x + (y - 1)) / y
+rounded_up x y wide = by_rest (eqb (x % y) 0) refl
+  where
+    all : x / y * y + x % y ≡ x
+    all = div-add-mod' x y
+
+    by_rest : (b : Bool) → eqb (x % y) 0 ≡ b → x / y + min 1 (x % y) ≡ (x + (y - 1)) / y
+    by_rest true t =
+        let none : x % y ≡ 0 = eqb-true (x % y) 0 t in
+        let sum : x + (y - 1) ≡ y - 1 + x / y * y = omega arith in
+        rw (none, sum, add-mul-div_right (y - 1) (x / y) wide, div-eq_of_lt {n = y - 1} {m = y} (omega arith)) (omega arith)
+    by_rest false t =
+        let some : x % y ≡ 0 → ⊥ = eqb-false (x % y) 0 t in
+        let below : x % y < y = mod-lt x wide in
+        let one : min 1 (x % y) ≡ 1 = omega arith in
+        let next : suc (x / y) * y ≡ x / y * y + y = suc-mul (x / y) y in
+        let sum : x + (y - 1) ≡ x % y - 1 + suc (x / y) * y = omega arith in
+        rw (one, sum, add-mul-div_right (x % y - 1) (suc (x / y)) wide, div-eq_of_lt {n = x % y - 1} {m = y} (omega arith)) (omega arith)
 
 -- where a chunk starts, and a place at most a chunk behind, are numbers of 64 bits
 pub small_start : (x y : ℕ) → x ≤ 65536 → y ≤ 131072 → x * y < 18446744073709551616

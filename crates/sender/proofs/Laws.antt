@@ -14,6 +14,7 @@ use Rattle.frame.specs.Rules.{info_fits, flag_fits, size_fits, fault_of}
 use Rattle.frame.specs.Message.{totals_fit}
 use Rattle.frame.specs.Write.{put_of}
 use Rattle.frame.proofs.Buffers.{laid_more, laid_length, pasted}
+use Rattle.frame.proofs.Message.{totals_range}
 use Rattle.frame.proofs.Laws.{no_fault, single_size, first_size, next_size}
 use Rattle.sender.specs.declared.Outgoing.{Outgoing}
 use Rattle.sender.specs.Sender.{Ready, Planned, header_for, fits_one, count_of, single_plan, first_plan, next_plan, frame_at, last_place, bytes_of, refused, send_of}
@@ -87,19 +88,6 @@ module _ (o : Outgoing) (k : ℕ) (m out : List ℕ) (r : Ready o) where
     unfolding send_of
     sends-18 t = rw (r.version, r.service, r.chunk, several, t)
 
-    module _ (fits : totals_fit (length m) (count_of o m) ≡ true) where
-      pub sends-26 : count_of o m < k → refused 26 out ≡ send_of o k m out
-      unfolding send_of last_place
-      sends-26 h = rw (r.version, r.service, r.chunk, several, fits, lt-leb k (count_of o m) h)
-
-      pub sends-first : k ≡ 0 → put_of (bytes_of (first_plan o m)) out ≡ send_of o k m out
-      unfolding send_of last_place
-      sends-first z = ap (λ (f : Planned). put_of (bytes_of f) out) (sym (at_first o k m several z)) ∙ rw (r.version, r.service, r.chunk, several, fits, le-leb k (count_of o m) (omega arith))
-
-      pub sends-next : (k ≡ 0 → ⊥) → k ≤ count_of o m → put_of (bytes_of (next_plan o m k)) out ≡ send_of o k m out
-      unfolding send_of last_place
-      sends-next z h = ap (λ (f : Planned). put_of (bytes_of f) out) (sym (at_next o k m several z)) ∙ rw (r.version, r.service, r.chunk, several, fits, le-leb k (count_of o m) h)
-
   module _ (single : fits_one o m ≡ true) where
     pub sends_none : 0 < k → refused 26 out ≡ send_of o k m out
     unfolding send_of last_place
@@ -108,3 +96,8 @@ module _ (o : Outgoing) (k : ℕ) (m out : List ℕ) (r : Ready o) where
     pub sends-single : k ≤ 0 → put_of (bytes_of (single_plan o m)) out ≡ send_of o k m out
     unfolding send_of last_place
     sends-single h = ap (λ (f : Planned). put_of (bytes_of f) out) (sym (at_single o k m single)) ∙ rw (r.version, r.service, r.chunk, single, le-leb k 0 h)
+
+-- what the check needs to know of a message in one frame, and of one in several
+pub ruleset single = (sends_none, single_fault)
+
+pub ruleset several = (chunk_range, totals_range)

@@ -9,11 +9,11 @@ use lib.Dec.{eqb, leb}
 use lib.ListN.{length, take}
 use lib.Seq.{take_at, drop_at}
 use borrow.Author.Tests.{le-leb, leb-true, eqb-true, eqb-false}
+use Rattle.std.specs.Prelude.{Ok}
 use Rattle.numbers.specs.Numbers.{bytes_be}
 use Rattle.numbers.proofs.Laws.{length_be, read_written_be}
 use Rattle.numbers.specs.Bytes.{unless}
 use Rattle.numbers.proofs.Choices.{split, either, unless_elim}
-use Rattle.frame.specs.declared.Written.TheVariants.{Bytes}
 use Rattle.frame.specs.Rules.{known_version, listed_service, fault_of}
 use Rattle.frame.specs.Message.{frame_number, totals_fit}
 use Rattle.frame.specs.Write.{Wrote, wrote, put_of}
@@ -127,7 +127,7 @@ pub record Told (o : Outgoing) (k : ℕ) (m : List ℕ) (n : ℕ) (left : List �
   pub place : k ≤ last_place o m
   pub bytes : take n left ≡ bytes_of (frame_at o m k)
 
-pub sent_told : (o : Outgoing) (k : ℕ) (m out left : List ℕ) (n : ℕ) → send_of o k m out ≡ wrote (Bytes n) left → Told o k m n left
+pub sent_told : (o : Outgoing) (k : ℕ) (m out left : List ℕ) (n : ℕ) → send_of o k m out ≡ wrote (Ok n) left → Told o k m n left
 unfolding send_of
 sent_told o k m out left n e =
     past (known_version o.version) 1 _ (λ version.
@@ -140,7 +140,7 @@ sent_told o k m out left n e =
       bytes = put_told (bytes_of (frame_at o m k)) out left n d;
     }))))) e
   where
-    past : (test : Bool) (number : ℕ) (rest : Wrote) → (test ≡ true → rest ≡ wrote (Bytes n) left → Told o k m n left)
-        → unless test (refused number out) rest ≡ wrote (Bytes n) left → Told o k m n left
+    past : (test : Bool) (number : ℕ) (rest : Wrote) → (test ≡ true → rest ≡ wrote (Ok n) left → Told o k m n left)
+        → unless test (refused number out) rest ≡ wrote (Ok n) left → Told o k m n left
     past test number rest f =
-        unless_elim (λ (w : Wrote). w ≡ wrote (Bytes n) left → Told o k m n left) test (refused number out) rest (λ t d. absurd (not_done number out left n d)) f
+        unless_elim (λ (w : Wrote). w ≡ wrote (Ok n) left → Told o k m n left) test (refused number out) rest (λ t d. absurd (not_done number out left n d)) f

@@ -1,10 +1,9 @@
 -- What our sender cuts is read back: the statement about the frames 0 to the last of a message that it accepts. The user's second demand: "What you write is
 -- read back the same, save version 1's missing message id." That the link hands the message over whole is link/specs/Arrival. Proved in proofs/ReadBack.
 -- Assumes nothing.
-use Rattle.std.specs.Prelude.{ℕ, ◌+◌, ◌-◌, ◌%◌, ◌^◌, ◌≤◌, ◌<◌, true, false, List, ◌≡◌, length, take, drop}
+use Rattle.std.specs.Prelude.{ℕ, ◌+◌, ◌-◌, ◌%◌, ◌^◌, ◌≤◌, ◌<◌, true, false, List, ◌≡◌, Ok, length, take, drop}
 use Rattle.numbers.specs.Numbers.{value_be}
 use Rattle.numbers.specs.Bytes.{laid}
-use Rattle.frame.specs.declared.Written.TheVariants.{Bytes}
 use Rattle.frame.specs.Write.{wrote}
 use Rattle.frame.specs.ReadBack.{as_read, ReadsAs}
 use Rattle.sender.specs.declared.Outgoing.{Outgoing}
@@ -13,7 +12,7 @@ use Rattle.sender.specs.Sender.{fits_one, count_of, frame_at, last_place, bytes_
 -- the frame at a place is sent where there is room, and read back as what it was meant to be, whatever follows it
 pub record SentFrame (o : Outgoing) (m : List ℕ) (k : ℕ) : Type 0 where
   pub sent : (out : List ℕ) → length (bytes_of (frame_at o m k)) ≤ length out
-      → send_of o k m out ≡ wrote (Bytes (length (bytes_of (frame_at o m k)))) (laid (bytes_of (frame_at o m k)) out)
+      → send_of o k m out ≡ wrote (Ok (length (bytes_of (frame_at o m k)))) (laid (bytes_of (frame_at o m k)) out)
   pub back : ReadsAs (bytes_of (frame_at o m k)) (as_read (frame_at o m k).header) (frame_at o m k).payload
 
 -- a message of more than one chunk

@@ -1,10 +1,9 @@
 -- The sender: the k-th frame of a message. Document 01, "Sender", and the answers 1, 3, 10, 18, 26, 11 in this order.
 -- Assumes nothing.
-use Rattle.std.specs.Prelude.{ℕ, zero, suc, ◌+◌, ◌-◌, ◌*◌, ◌/◌, Bool, true, false, ◌&&◌, ◌||◌, List, [], ◌++◌, ◌≡◌, eqb, leb, length}
+use Rattle.std.specs.Prelude.{ℕ, zero, suc, ◌+◌, ◌-◌, ◌*◌, ◌/◌, Bool, true, false, ◌&&◌, ◌||◌, List, [], ◌++◌, ◌≡◌, Err, eqb, leb, length}
 use Rattle.numbers.specs.Bytes.{part, pick, unless}
 use Rattle.numbers.specs.Numbers.{bytes_be}
 use Rattle.frame.specs.declared.Header.{Header}
-use Rattle.frame.specs.declared.Written.TheVariants.{Refused}
 use Rattle.frame.specs.Rules.{known_version, listed_service, largest}
 use Rattle.frame.specs.Message.{frame_number, totals_fit}
 use Rattle.frame.specs.Write.{frame_bytes, Wrote, wrote, put_of}
@@ -72,7 +71,11 @@ abbrev pub bytes_of : Planned → List ℕ
 bytes_of f = frame_bytes f.header f.payload
 
 abbrev pub refused : ℕ → List ℕ → Wrote
-refused n out = wrote (Refused n) out
+refused n out = wrote (Err n) out
+
+-- the first of 1, 3 and 10 that what all frames share earns, or 0
+abbrev pub unready : Outgoing → ℕ
+unready o = unless (known_version o.version) 1 (unless (listed_service o.service) 3 (unless (chunk_fits o.version o.chunk) 10 0))
 
 -- 1, 3, 10, then 18 "if more than one chunk", 26 "k past the last frame", 11
 unfoldable pub send_of : Outgoing → ℕ → List ℕ → List ℕ → Wrote

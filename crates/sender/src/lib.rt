@@ -2,18 +2,19 @@
 // It keeps no state: whoever sends asks for frame 0, 1, 2 .. until the answer is that there is none (26).
 #![tactic(auto)]
 
-ghost use Rattle.std.specs.Prelude.{◌≡◌, true, false, ◌+◌, ◌-◌, ◌*◌, ◌/◌, ◌≤◌, ◌<◌, min, ◌++◌, length};
-ghost use Rattle.numbers.specs.Bytes.{part};
+ghost use Rattle.std.specs.Prelude.{◌≡◌, false, ◌≤◌, ◌++◌, IfOk, length};
 ghost use Rattle.numbers.specs.Numbers.{bytes_be};
 ghost use Rattle.frame.specs.Rules.{fault_of};
-ghost use Rattle.frame.specs.Message.{totals_fit};
-ghost use Rattle.frame.specs.Write.{wrote, put_of, frame_bytes};
-ghost use Rattle.sender.specs.Sender.{Ready, chunk_fits, fits_one, count_of, header_for, plan, bytes_of, chunk_of, next_plan, send_of};
+ghost use Rattle.figures.specs.Refusal.{refusal_in};
+ghost use Rattle.frame.specs.Write.{wrote, put_of};
+ghost use Rattle.sender.specs.Sender.{Ready, unready, chunk_fits, fits_one, count_of, header_for, plan, bytes_of, next_plan, send_of};
 
-use frame::{Header, MessageId, ServiceType, SessionId, Written, refusal};
+use figures::frame_type;
+use figures::refusal::Refusal;
+use frame::{Header, MessageId, ServiceType, SessionId};
 
 // What all frames of a message share. The chunk is the largest payload of one frame.
-#[derive(Clone, Copy)]
+#[derive(Clone, Copy, PartialEq, Eq)]
 pub struct Outgoing {
     pub version: u8,
     pub service: ServiceType,
@@ -22,104 +23,129 @@ pub struct Outgoing {
     pub chunk: u32,
 }
 
+// An `Outgoing` that refusals 1, 3 and 10 let pass.
+#[derive(Clone, Copy)]
+struct Sendable {
+    outgoing: Outgoing,
+    ghost ready: { Ready outgoing },
+}
+
+#[tactic(auto, unfolding(crate::specs::Sender::chunk_fits))]
 fn chunk_fits(version: u8, chunk: u32) -> bool
     ensures { result ≡ chunk_fits version chunk }
 {
-    if chunk == 0 {
-        return false;
+    (1..=frame::largest_size(version)).contains(&chunk)
+}
+
+impl Outgoing {
+    // 1, 3 and 10, in this order.
+    fn checked(self) -> Result<Sendable, Refusal>
+        ensures refused { refusal_in result ≡ unready self }
+        ensures same { IfOk result (λ sendable. sendable.outgoing ≡ self) }
+    {
+        if !frame::known_version(self.version) {
+            return Err(Refusal::BAD_VERSION);
+        }
+        if !frame::listed_service(self.service) {
+            return Err(Refusal::BAD_SERVICE);
+        }
+        if !chunk_fits(self.version, self.chunk) {
+            return Err(Refusal::BAD_SETTINGS);
+        }
+        Ok(Sendable { outgoing: self })
     }
-    chunk <= frame::largest_size(version)
-}
 
-// How many frames follow the First Frame.
-fn frame_count(outgoing: Outgoing, message: &[u8]) -> usize
-    requires { (1 ≤ outgoing.chunk) × (1 ≤ length message.now) }
-    ensures { result ≡ count_of outgoing message.now }
-{
-    (message.len() - 1) / outgoing.chunk as usize + 1
-}
-
-// One frame with the data size of its payload.
-fn put(outgoing: Outgoing, kind: u8, info: u8, payload: &[u8], out: &mut [u8]) -> Written
-    requires { fault_of (header_for outgoing kind info (length payload.now)) ≡ 0 }
-    ensures { wrote result out.new ≡ put_of (bytes_of (plan outgoing kind info payload.now)) out.old }
-{
-    let service = outgoing.service;
-    let session = outgoing.session;
-    let message = outgoing.message;
-    let header = Header {
-        version: outgoing.version,
-        flag: false,
-        kind,
-        service,
-        info,
-        session,
-        size: payload.len() as u32,
-        message,
-    };
-    frame::write(header, payload, out)
-}
-
-fn put_first(outgoing: Outgoing, total: u32, count: u32, out: &mut [u8]) -> Written
-    requires { Ready outgoing }
-    ensures { wrote result out.new ≡ put_of (bytes_of (plan outgoing 2 0 (bytes_be 4 total ++ bytes_be 4 count))) out.old }
-{
-    let mut totals = [0u8; 8];
-    numbers::put_be4(&mut totals, 0, total);
-    numbers::put_be4(&mut totals, 4, count);
-    put(outgoing, 2, 0, &totals, out)
-}
-
-fn put_next(outgoing: Outgoing, place: u32, count: u32, message: &[u8], out: &mut [u8]) -> Written
-    requires ready { Ready outgoing }
-    requires count_value { (count ≡ count_of outgoing message.now) × (count ≤ 65536) }
-    requires le_place { (1 ≤ place) × (place ≤ count) × (1 ≤ length message.now) }
-    ensures { wrote result out.new ≡ put_of (bytes_of (next_plan outgoing message.now place)) out.old }
-{
-    let number = frame::frame_number(place as usize, count as usize);
-    let chunk = outgoing.chunk as usize;
-    let start = (place - 1) as usize * chunk;
-    let end = numbers::least(start + chunk, message.len());
-    put(outgoing, 3, number as u8, &message[start..end], out)
-}
-
-// More than one chunk: 18, 26, then the First Frame or a consecutive one.
-fn send_several(outgoing: Outgoing, k: u32, message: &[u8], out: &mut [u8]) -> Written
-    requires ready { Ready outgoing }
-    requires message_value { fits_one outgoing message.now ≡ false }
-    ensures { wrote result out.new ≡ send_of outgoing k message.now out.old }
-{
-    let count = frame_count(outgoing, message);
-    if !frame::totals_fit(message.len(), count) {
-        return Written::Refused(refusal::TOTALS);
+    // One frame with the data size of its payload.
+    #[tactic(auto, using(frame::proofs::Laws::write_puts))]
+    fn put(self, kind: u8, info: u8, payload: &[u8], out: &mut [u8]) -> Result<usize, Refusal>
+        requires { fault_of (header_for self kind info (length payload.now)) ≡ 0 }
+        ensures { wrote result out.new ≡ put_of (bytes_of (plan self kind info payload.now)) out.old }
+    {
+        let header = Header {
+            version: self.version,
+            flag: false,
+            kind,
+            service: self.service,
+            info,
+            session: self.session,
+            size: payload.len() as u32,
+            message: self.message,
+        };
+        frame::write(header, payload, out)
     }
-    if count < k as usize {
-        return Written::Refused(refusal::NO_SUCH_FRAME);
+}
+
+impl Sendable {
+    // How many frames follow the First Frame.
+    fn frame_count(self, message: &[u8]) -> usize
+        ensures { result ≡ count_of self.outgoing message.now }
+    {
+        message.len().div_ceil(self.outgoing.chunk as usize)
     }
-    if k == 0 {
-        return put_first(outgoing, message.len() as u32, count as u32, out);
+
+    fn put_first(self, total: u32, count: u32, out: &mut [u8]) -> Result<usize, Refusal>
+        ensures { wrote result out.new ≡ put_of (bytes_of (plan self.outgoing 2 0 (bytes_be 4 total ++ bytes_be 4 count))) out.old }
+    {
+        let mut totals = [0u8; 8];
+        numbers::put_be4(&mut totals, 0, total);
+        numbers::put_be4(&mut totals, 4, count);
+        self.outgoing.put(frame_type::FIRST, 0, &totals, out)
     }
-    put_next(outgoing, k, count as u32, message, out)
+
+    fn put_next(
+        self,
+        place: u32,
+        count: u32,
+        message: &[u8],
+        out: &mut [u8],
+    ) -> Result<usize, Refusal>
+        requires count_value { (count ≡ count_of self.outgoing message.now) × (count ≤ 65536) }
+        requires le_place { (1 ≤ place) × (place ≤ count) × (1 ≤ length message.now) }
+        ensures { wrote result out.new ≡ put_of (bytes_of (next_plan self.outgoing message.now place)) out.old }
+    {
+        let number = frame::frame_number(place as usize, count as usize);
+        let chunk = self.outgoing.chunk as usize;
+        let start = (place - 1) as usize * chunk;
+        let end = (start + chunk).min(message.len());
+        self.outgoing.put(
+            frame_type::CONSECUTIVE,
+            number as u8,
+            &message[start..end],
+            out,
+        )
+    }
+
+    // More than one chunk: 18, 26, then the First Frame or a consecutive one.
+    #[tactic(auto, using(crate::proofs::Laws::several), unfolding(crate::specs::Sender::send_of, crate::specs::Sender::last_place, crate::specs::Sender::frame_at))]
+    fn send_several(self, k: u32, message: &[u8], out: &mut [u8]) -> Result<usize, Refusal>
+        requires { fits_one self.outgoing message.now ≡ false }
+        ensures { wrote result out.new ≡ send_of self.outgoing k message.now out.old }
+    {
+        let count = self.frame_count(message);
+        if !frame::totals_fit(message.len(), count) {
+            return Err(Refusal::BAD_TOTALS);
+        }
+        if count < k as usize {
+            return Err(Refusal::NO_SUCH_FRAME);
+        }
+        if k == 0 {
+            return self.put_first(message.len() as u32, count as u32, out);
+        }
+        self.put_next(k, count as u32, message, out)
+    }
 }
 
 // The k-th frame of `message`, counted from 0.
-pub fn send(outgoing: Outgoing, k: u32, message: &[u8], out: &mut [u8]) -> Written
+#[tactic(auto, using(crate::proofs::Laws::single), unfolding(crate::specs::Sender::send_of, crate::specs::Sender::fits_one))]
+pub fn send(outgoing: Outgoing, k: u32, message: &[u8], out: &mut [u8]) -> Result<usize, Refusal>
     ensures { wrote result out.new ≡ send_of outgoing k message.now out.old }
 {
-    if !frame::known_version(outgoing.version) {
-        return Written::Refused(refusal::VERSION);
-    }
-    if !frame::listed_service(outgoing.service) {
-        return Written::Refused(refusal::SERVICE);
-    }
-    if !chunk_fits(outgoing.version, outgoing.chunk) {
-        return Written::Refused(refusal::SETTINGS);
-    }
+    let sendable = outgoing.checked()?;
     if (outgoing.chunk as usize) < message.len() {
-        return send_several(outgoing, k, message, out);
+        return sendable.send_several(k, message, out);
     }
     if 0 < k {
-        return Written::Refused(refusal::NO_SUCH_FRAME);
+        return Err(Refusal::NO_SUCH_FRAME);
     }
-    put(outgoing, 1, 0, message, out)
+    outgoing.put(frame_type::SINGLE, 0, message, out)
 }

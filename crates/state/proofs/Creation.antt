@@ -3,16 +3,16 @@ use Prim.Native.Nat.{ℕ, ◌+◌, ◌≤◌}
 use mathlib.Core.Path.{◌≡◌, refl, ap, ◌∙◌}
 use mathlib.Core.List.{List, [], ◌∷◌, ◌++◌, append_assoc, append-nil}
 use native.Mathlib.Omega.{arith}
-use lib.ListN.{length, drop, set, length-append, drop_of_length-le, length-set}
+use lib.ListN.{length, drop, set, replicate, length-append, drop_of_length-le, length-set}
 use lib.Seq.{drop-drop}
-use Rattle.numbers.specs.Bytes.{put_at, laid}
+use Rattle.numbers.specs.Bytes.{part, put_at, laid}
 use Rattle.numbers.specs.Numbers.{bytes_le}
 use Rattle.numbers.proofs.Laws.{length_le}
 use Rattle.frame.proofs.Buffers.{four_stored, laid_more, laid_length}
 use borrow.Rule.Slice.PartMut.{put_mid}
 use Rattle.payload.specs.declared.version.Version.{Version}
 use Rattle.state.specs.Calls.{settings_bytes}
-use Rattle.state.proofs.Packed.{put_is}
+use Rattle.state.proofs.Packed.{part_length, put_is}
 
 pub settings_put : (v : Version) (mtu : ℕ) (o q : List ℕ) → 8 ≤ length o
     → q ≡ put_at (set (set (set (set o 0 1) 1 v.major) 2 v.minor) 3 v.patch) 4 4 (bytes_le 4 mtu) → q ≡ laid (settings_bytes v mtu) o
@@ -29,6 +29,10 @@ pub copied : (a b o p q r : List ℕ) (n w : ℕ) → length a ≡ n → length 
 copied a b o p q r n w l m h e f g =
     let long : length p ≡ length o = rw e (laid_length a o (omega arith)) in
     laid_more a b o p q n w l m e (g ∙ rw (f, drop-drop))
+
+-- a part that was filled with zeros
+pub filled : (s r : List ℕ) (at w : ℕ) → at + w ≤ length s → r ≡ replicate (length (part s at w)) 0 → r ≡ replicate w 0
+filled s r at w h e = e ∙ ap (λ (n : ℕ). replicate n 0) (part_length s at w h)
 
 -- three pieces behind the settings: z reserved bytes, the map, the rows
 module _ (v : Version) (mtu : ℕ) (o z free rows : List ℕ) (whole : length o ≡ 2688) (long : length z ≡ 536) (map : length free ≡ 256) (rest : length rows ≡ 1888) where

@@ -5,3 +5,5 @@ pub mod Fitting
 pub mod Steps
 pub mod Lists
 mod Creation
+pub mod Made
+mod Turns

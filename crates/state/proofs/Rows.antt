@@ -218,13 +218,11 @@ row_unchanged s i h l k =
     rw (put_is s at 129 (row_bytes t (row_of t)) (row_length t (row_of t)) (omega arith), stays, ← drop-drop 129 at s, take-append-drop 129 (drop at s)) (take-append-drop at s)
 
 -- the rows' ids, each in the first byte of its row
-pub ids_are : (s : List ℕ) → length s ≡ 2688 → (a b c d e f g h : ℕ) → a ≡ number_at s 800 1 → b ≡ number_at s 1036 1 → c ≡ number_at s 1272 1 → d ≡ number_at s 1508 1
-    → e ≡ number_at s 1744 1 → f ≡ number_at s 1980 1 → g ≡ number_at s 2216 1 → h ≡ number_at s 2452 1
-    → id_as a ∷ id_as b ∷ id_as c ∷ id_as d ∷ id_as e ∷ id_as f ∷ id_as g ∷ id_as h ∷ [] ≡ map (λ (r : Row). r.id) (link_of s).rows
-ids_are s l a b c d e f g h p q r t u v w x =
-    let first : (i : ℕ) (n : ℕ) → n ≡ number_at s (row_place i) 1 → i < 8 → id_as n ≡ (row_in s i).id
-    = λ i n k m. ap id_as (k ∙ ap value_le (sym (part_front s (row_place i) 129 1 (omega arith)))) in
-    rw (first 0 a p (omega arith), first 1 b q (omega arith), first 2 c r (omega arith), first 3 d t (omega arith), first 4 e u (omega arith), first 5 f v (omega arith), first 6 g w (omega arith), first 7 h x (omega arith))
+pub ids_are : (s : List ℕ) → map (λ i. id_as (number_at s (row_place i) 1)) eight ≡ map (λ (r : Row). r.id) (link_of s).rows
+ids_are s =
+    let at : (i : ℕ) → number_at s (row_place i) 1 ≡ number_at (part s (row_place i) 129) 0 1
+    = λ i. ap value_le (sym (part_front s (row_place i) 129 1 (omega arith))) in
+    rw (at 0, at 1, at 2, at 3, at 4, at 5, at 6, at 7)
 
 -- no flag of a message is set where two numbers are 0
 pub quiet_is : (t : List ℕ) (a b : ℕ) → 11 ≤ length t → a ≡ number_at t 6 4 → b ≡ number_at t 10 1

@@ -13,13 +13,11 @@ pub fn read<R: Read>(reader: &mut R, piece: &mut [u8]) -> usize
     ensures in_bounds { result ≤ length piece.new }
     ensures bytes { Consumes (R.remaining reader.old) (R.remaining reader.new) (take result piece.new) }
 {
-    match reader.read(piece) {
-        Ok(count) => count,
-        Err(_) => 0,
-    }
+    reader.read(piece).unwrap_or(0)
 }
 
 // Reads until `buffer` is full, the input ends or a read fails. Answers how many bytes it put at the front of it. A buffer of no bytes makes no call.
+// Counted, and not cut down to what is left as in `write_all`: the count is the answer.
 pub fn read_full<R: Read>(reader: &mut R, buffer: &mut [u8]) -> usize
     ensures in_bounds { result ≤ length buffer.new }
     ensures bytes { Consumes (R.remaining reader.old) (R.remaining reader.new) (take result buffer.new) }
@@ -40,10 +38,7 @@ fn write<W: Write>(writer: &mut W, bytes: &[u8]) -> usize
     ensures in_bounds { result ≤ length bytes.now }
     ensures bytes { Appends (W.contents writer.old) (W.contents writer.new) (take result bytes.now) }
 {
-    match writer.write(bytes) {
-        Ok(taken) => taken,
-        Err(_) => 0,
-    }
+    writer.write(bytes).unwrap_or(0)
 }
 
 // Writes all of `bytes` and answers true, or stops at the first write that takes nothing or fails and answers false, when some of `bytes` may have been
@@ -52,13 +47,13 @@ pub fn write_all<W: Write>(writer: &mut W, bytes: &[u8]) -> bool
     ensures all { result ≡ true → Appends (W.contents writer.old) (W.contents writer.new) bytes.now }
     ensures front { (n : ℕ) × Appends (W.contents writer.old) (W.contents writer.new) (take n bytes.now) }
 {
-    let mut done = 0;
-    while done < bytes.len() {
-        let count = write(writer, &bytes[done..]);
+    let mut rest = bytes;
+    while !rest.is_empty() {
+        let count = write(writer, rest);
         if count == 0 {
             return false;
         }
-        done += count;
+        rest = &rest[count..];
     }
     true
 }

@@ -4,22 +4,15 @@ use mathlib.Core.Path.{◌≡◌, ap, ◌∙◌, sym}
 use mathlib.Core.List.{List, ◌++◌, append-nil}
 use native.Mathlib.Omega.{arith}
 use lib.Dec.{leb}
-use lib.ListN.{length, take, drop, length-take, length-drop, drop_of_length-le}
-use lib.Seq.{take_all, take-length, drop-drop, take-append-add, take-append_seam}
+use lib.ListN.{length, take, drop, length-take, drop_of_length-le}
+use lib.Seq.{take_all, drop-drop, take-append-add, take-append_seam}
 use borrow.Author.Tests.{leb-true, leb-false}
+use Rattle.std.proofs.lemmas.List.{take_min}
 use Rattle.numbers.proofs.Choices.{split}
 use borrow.Rule.Slice.PartMut.{put_mid}
-use Rattle.numbers.specs.Bytes.{part}
 use Rattle.text.specs.Pieces.{fitting, put_into}
 
--- a bound cut at the length is the same bound
-pub take_min : (n : ℕ) (s : List ℕ) → take (min n (length s)) s ≡ take n s
-take_min n s =
-    split (leb n (length s)) (λ e. let q : min n (length s) ≡ n = omega (arith, leb-true n (length s) e) in rw q) λ e.
-    let q : min n (length s) ≡ length s = omega (arith, leb-false n (length s) e) in
-    let m : length s ≤ n = omega (arith, leb-false n (length s) e) in
-    rw (q, take-length, take_all n s m)
-
+-- a place cut at the length is the same place
 pub drop_min : (n : ℕ) (s : List ℕ) → drop (min n (length s)) s ≡ drop n s
 drop_min n s =
     split (leb n (length s)) (λ e. let q : min n (length s) ≡ n = omega (arith, leb-true n (length s) e) in rw q) λ e.
@@ -27,17 +20,6 @@ drop_min n s =
     let m : length s ≤ n = omega (arith, leb-false n (length s) e) in
     let l : length s ≤ length s = omega arith in
     rw (q, drop_of_length-le s {i = length s} l, drop_of_length-le s {i = n} m)
-
--- the part of a slice from 0 to e
-pub front_is : (n : ℕ) (s : List ℕ) {e : ℕ} → e ≡ min n (length s) → take (e - 0) s ≡ take n s
-front_is n s {e} h = let z : e - 0 ≡ min n (length s) = omega (arith, h) in rw z (take_min n s)
-
--- the part of a slice from a to e
-pub part_is : (at n : ℕ) (s : List ℕ) {a e : ℕ} → a ≡ min at (length s) → e ≡ a + min n (length s - a) → take (e - a) (drop a s) ≡ part s at n
-part_is at n s {a} {e} h k =
-    let d : drop a s ≡ drop at s = rw h (drop_min at s) in
-    let z : e - a ≡ min n (length (drop at s)) = omega (arith, h, k, length-drop at s) in
-    rw (d, z) (take_min n (drop at s))
 
 -- n bytes of s copied into b from a on: a is the place cut at the length of b, n what fits there
 module _ (b s : List ℕ) (at : ℕ) {a n : ℕ} (h : a ≡ min at (length b)) (k : n ≡ min (length s) (length b - a)) where

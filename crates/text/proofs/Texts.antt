@@ -9,16 +9,17 @@ use lib.ListN.{length, take, drop, length-take}
 use lib.Seq.{take_all, take-append_seam}
 use borrow.Author.Tests.{leb-true, leb-false, le-ltb, lt-ltb}
 use Rattle.numbers.specs.Bytes.{pick, laid}
-use Rattle.lines.specs.declared.Encoded.{Encoded}
-use Rattle.lines.specs.declared.Encoded.TheVariants.{Chars, Full}
+use Rattle.std.specs.Prelude.{Option, Some, None}
+use Rattle.std.specs.Option.{unwrap_or}
 use Rattle.lines.specs.Text.{Encoding, encoded, written_of}
 use Rattle.lines.specs.Decimal.{decimal_of}
 use Rattle.numbers.proofs.Choices.{split}
 use Rattle.lines.proofs.Digits.{width_most}
 use Rattle.text.specs.declared.Text.{Text}
 use Rattle.text.specs.Said.{said, Started, Longer, Marked}
-use Rattle.text.specs.Pieces.{fitting, put_into, count_of, check_from}
-use Rattle.text.proofs.Lists.{take_min, put_front}
+use Rattle.text.specs.Pieces.{fitting, put_into, check_from}
+use Rattle.std.proofs.lemmas.List.{take_min}
+use Rattle.text.proofs.Lists.{put_front}
 use lib.Seq.{drop-cons}
 use lib.ListN.{get_or, drop_of_length-le}
 
@@ -84,20 +85,20 @@ pub renamed : {t r : Text} {a b : List ℕ} → a ≡ b → Longer t a r → Lon
 renamed {t} {r} e f = subst (λ (s : List ℕ). Longer t s r) e f
 
 -- what a writer of `lines` put to the front of a buffer, and how many characters it says these are
-module _ (d o : List ℕ) {a : Encoded} {r : List ℕ} (e : encoded a r ≡ written_of d o) {n : ℕ} (h : n ≡ count_of a) where
+module _ (d o : List ℕ) {a : Option ℕ} {r : List ℕ} (e : encoded a r ≡ written_of d o) {n : ℕ} (h : n ≡ unwrap_or a 0) where
   fits : length d ≤ length o → take n r ≡ d
   unfolding written_of
   fits m =
-      let f : encoded a r ≡ encoded (Chars (length d)) (laid d o) = e ∙ rw (le-ltb (length o) (length d) m) in
-      let x = ap (λ (w : Encoding). count_of w.answer) f in
+      let f : encoded a r ≡ encoded (Some (length d)) (laid d o) = e ∙ rw (le-ltb (length o) (length d) m) in
+      let x = ap (λ (w : Encoding). unwrap_or w.answer 0) f in
       let b = ap (λ (w : Encoding). w.buffer) f in
       rw (h, x, b) (take-append_seam d (drop (length d) o))
 
   full : length o < length d → take n r ≡ []
   unfolding written_of
   full m =
-      let f : encoded a r ≡ encoded Full o = e ∙ rw (lt-ltb (length o) (length d) m) in
-      let x = ap (λ (w : Encoding). count_of w.answer) f in
+      let f : encoded a r ≡ encoded None o = e ∙ rw (lt-ltb (length o) (length d) m) in
+      let x = ap (λ (w : Encoding). unwrap_or w.answer 0) f in
       rw (h, x) refl
 
   pub piece : (m : ℕ) → length o ≡ m → take n r ≡ pick (leb (length d) m) d []

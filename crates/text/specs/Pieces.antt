@@ -1,8 +1,6 @@
 -- Bytes put into a buffer, and the number that shows a buffer. Assumes nothing.
 use Rattle.std.specs.Prelude.{ℕ, ◌+◌, ◌-◌, ◌*◌, ◌%◌, List, [], ◌∷◌, ◌++◌, leb, length, take, drop}
 use Rattle.numbers.specs.Bytes.{pick}
-use Rattle.lines.specs.declared.Encoded.{Encoded}
-use Rattle.lines.specs.declared.Encoded.TheVariants.{Chars, Full}
 use Rattle.lines.specs.Hex.{hex_of}
 
 -- the bytes that fit into a buffer from a place on
@@ -13,11 +11,6 @@ fitting buffer at bytes = take (length buffer - at) bytes
 abbrev pub put_into : List ℕ → ℕ → List ℕ → List ℕ
 put_into buffer at bytes =
     take at buffer ++ (fitting buffer at bytes ++ drop (at + length (fitting buffer at bytes)) buffer)
-
--- the characters that a writer of `lines` wrote
-abbrev pub count_of : Encoded → ℕ
-count_of (Chars n) = n
-count_of Full = 0
 
 -- the digits of bytes, two for each, where these are at most 2,048; else none
 abbrev pub digits_of : List ℕ → List ℕ

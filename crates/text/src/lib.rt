@@ -10,14 +10,15 @@ ghost use Rattle.numbers.specs.Bytes.{pick, part as part_of};
 ghost use Rattle.lines.specs.Hex.{hex_of};
 ghost use Rattle.lines.specs.Decimal.{decimal_of};
 ghost use Rattle.text.specs.Said.{Started, Longer, Marked};
-ghost use Rattle.text.specs.Pieces.{fitting, put_into, check_of, count_of, digits_of};
+ghost use Rattle.text.specs.Pieces.{fitting, put_into, check_of, digits_of};
 
-use lines::Encoded;
+use numbers::Number;
 
 const ROOM: usize = 4096;
 
 #[derive(Clone, Copy)]
 pub struct Text {
+    // an array and not a String: the project's memory is fixed
     pub chars: [u8; ROOM],
     // so many of them are the text
     pub end: usize,
@@ -32,24 +33,21 @@ pub struct Text {
 pub fn past(place: usize, length: usize) -> usize
     ensures { result ≡ min (1 + place) length }
 {
-    if place < length { place + 1 } else { length }
+    place.saturating_add(1).min(length)
 }
 
 // The first bytes of a slice, all of them where it has fewer than asked for.
 pub fn front(whole: &[u8], count: usize) -> &[u8]
     ensures { result.now ≡ take count whole.now }
 {
-    let end = numbers::least(count, whole.len());
-    &whole[0..end]
+    &whole[..count.min(whole.len())]
 }
 
 // So many bytes of a slice from a place on, as far as it has them.
 pub fn part(whole: &[u8], at: usize, count: usize) -> &[u8]
     ensures { result.now ≡ part_of whole.now at count }
 {
-    let start = numbers::least(at, whole.len());
-    let end = start + numbers::least(count, whole.len() - start);
-    &whole[start..end]
+    front(&whole[at.min(whole.len())..], count)
 }
 
 // Bytes into a buffer from a place on, as far as they fit. Answers where they end.
@@ -58,8 +56,8 @@ pub fn put(buffer: &mut [u8], at: usize, bytes: &[u8]) -> usize
     ensures upper_bound { result ≤ length buffer.new }
     ensures buffer_after { buffer.new ≡ put_into buffer.old at bytes.now }
 {
-    let start = numbers::least(at, buffer.len());
-    let count = numbers::least(bytes.len(), buffer.len() - start);
+    let start = at.min(buffer.len());
+    let count = bytes.len().min(buffer.len() - start);
     let end = start + count;
     buffer[start..end].copy_from_slice(&bytes[0..count]);
     end
@@ -71,22 +69,10 @@ pub fn check(buffer: &[u8]) -> u64
     ensures upper_bound { result < 4294967296 }
 {
     let mut sum: u64 = 7;
-    let mut i: usize = 0;
-    while i < buffer.len() {
-        sum = (sum * 31 + buffer[i] as u64) % 4294967296;
-        i += 1;
+    for b in buffer {
+        sum = (sum * 31 + u64::from(*b)) % 4294967296;
     }
     sum
-}
-
-// How many characters were written; none where they had no room.
-fn written(encoded: Encoded) -> usize
-    ensures { result ≡ count_of encoded }
-{
-    match encoded {
-        Encoded::Chars(count) => count,
-        Encoded::Full => 0,
-    }
 }
 
 // ---- texts
@@ -108,7 +94,7 @@ impl Text {
     pub fn same(mut self) -> Text
         ensures { Longer self [] result }
     {
-        self.end = numbers::least(self.end, ROOM);
+        self.end = self.end.min(ROOM);
         self
     }
 
@@ -118,7 +104,7 @@ impl Text {
         let mut chars = self.chars;
         let end = put(&mut chars, self.end, text);
         self.chars = chars;
-        self.end = numbers::least(end, ROOM);
+        self.end = end.min(ROOM);
         self
     }
 
@@ -128,33 +114,21 @@ impl Text {
         self.put(&[byte])
     }
 
-    pub fn decimal(self, number: u64) -> Text
-        ensures { Longer self (decimal_of number) result }
+    // A number of any width in decimal.
+    pub fn decimal<N: Number>(self, number: N) -> Text
+        ensures { Longer self (decimal_of (N.value number)) result }
     {
         // the largest number of 64 bits has 20 digits
         let mut digits = [0u8; 20];
-        let count = written(lines::number_to_decimal(number, &mut digits));
+        let count = lines::number_to_decimal(number.wide(), &mut digits).unwrap_or(0);
         self.put(front(&digits, count))
     }
 
     // A byte, then a number in decimal.
-    pub fn number(self, before: u8, number: u64) -> Text
-        ensures { Longer self (before ∷ decimal_of number) result }
+    pub fn number<N: Number>(self, before: u8, number: N) -> Text
+        ensures { Longer self (before ∷ decimal_of (N.value number)) result }
     {
         self.byte(before).decimal(number)
-    }
-
-    // The same for numbers of 8 and of 32 bits.
-    pub fn number8(self, before: u8, number: u8) -> Text
-        ensures { Longer self (before ∷ decimal_of number) result }
-    {
-        self.number(before, number as u64)
-    }
-
-    pub fn number32(self, before: u8, number: u32) -> Text
-        ensures { Longer self (before ∷ decimal_of number) result }
-    {
-        self.number(before, number as u64)
     }
 
     // A letter and a number: most answers begin so.
@@ -168,7 +142,7 @@ impl Text {
     pub fn refused(number: u8) -> Text
         ensures { Started (82 ∷ 32 ∷ decimal_of number) result }
     {
-        Text::empty().byte(b'R').number8(b' ', number)
+        Text::empty().byte(b'R').number(b' ', number)
     }
 
     // Two digits a byte, where these are at most 2,048.
@@ -176,7 +150,7 @@ impl Text {
         ensures { Longer self (digits_of bytes.now) result }
     {
         let mut digits = [0u8; 2048];
-        let count = written(lines::bytes_to_hex(bytes, &mut digits));
+        let count = lines::bytes_to_hex(bytes, &mut digits).unwrap_or(0);
         self.put(front(&digits, count))
     }
 

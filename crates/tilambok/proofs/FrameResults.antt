@@ -1,5 +1,6 @@
 -- Every answer of the reader, the writers and the sender has room in its result; so the status tells which answer it was, and the value what goes with it.
 -- A frame's fields tell its header. By the tests of those functions, and by numbers written and read back. Assumes nothing.
+use Rattle.std.proofs.Common.{Result as Answer, Ok, Err}
 use Prim.Native.Nat.{ℕ, ◌^◌, ◌≤◌, ◌<◌}
 use mathlib.Core.Path.{◌≡◌, refl, ap, sym, ◌∙◌}
 use mathlib.Core.Bool.{Bool, true, false, not, ◌||◌}
@@ -17,8 +18,6 @@ use Rattle.frame.specs.declared.Header.{Header}
 use Rattle.frame.specs.declared.Extent.{Extent}
 use Rattle.frame.specs.declared.Reading.{Reading}
 use Rattle.frame.specs.declared.Reading.TheVariants.{Frame, Refused, Short}
-use Rattle.frame.specs.declared.Written.{Written}
-use Rattle.frame.specs.declared.Written.TheVariants as written
 use Rattle.frame.specs.Rules.{header_size, fault_of, known_version, listed_service}
 use Rattle.frame.specs.Message.{totals_fit}
 use Rattle.frame.specs.Read.{front_of, read_of}
@@ -28,7 +27,7 @@ use Rattle.frame.proofs.Answers.{is_refused, is_short, frame_sound, extent_is, c
 use Rattle.sender.specs.declared.Outgoing.{Outgoing}
 use Rattle.sender.specs.Sender.{chunk_fits, fits_one, count_of, frame_at, last_place, bytes_of, refused, send_of, Accepted}
 use Rattle.sender.proofs.ReadBack.{sent_read_back}
-use Rattle.tilambok.specs.Status.{Result, IsRefusal, WrittenFits, written_result, answered}
+use Rattle.tilambok.specs.Status.{Result, IsRefusal, WrittenFits, written_result}
 use Rattle.tilambok.specs.Frames.{reading_result, ReadingFits, field_bytes, header_in, heard, tilambok_read_frame, tilambok_write_header, tilambok_write_frame}
 use Rattle.tilambok.specs.Sending.{tilambok_send}
 
@@ -55,9 +54,9 @@ heard_fits fields (Refused n) f = f
 heard_fits fields (Short n) f = f
 
 -- the writers' and the sender's, and where they refuse, out is as it was
-abbrev pub AnswerFits : List ℕ → Written → List ℕ → Type 0
-AnswerFits out (written.Bytes n) b = n < 2 ^ 32
-AnswerFits out (written.Refused n) b = IsRefusal n × (b ≡ out)
+abbrev pub AnswerFits : List ℕ → Answer ℕ ℕ → List ℕ → Type 0
+AnswerFits out (Ok n) b = n < 2 ^ 32
+AnswerFits out (Err n) b = IsRefusal n × (b ≡ out)
 
 abbrev pub Answers : List ℕ → Wrote → Type 0
 Answers out w = AnswerFits out w.answer w.out
@@ -65,13 +64,13 @@ Answers out w = AnswerFits out w.answer w.out
 with_room : (out : List ℕ) (w : Wrote) → Answers out w → WrittenFits w.answer
 with_room out w f = room w.answer f
   where
-    room : (a : Written) → AnswerFits out a w.out → WrittenFits a
-    room (written.Bytes n) g = g
-    room (written.Refused n) g = g.0
+    room : (a : Answer ℕ ℕ) → AnswerFits out a w.out → WrittenFits a
+    room (Ok n) g = g
+    room (Err n) g = g.0
 
 put_answers : (bytes out : List ℕ) → length bytes ≤ 131084 → Answers out (put_of bytes out)
 put_answers bytes out l =
-    unless_elim (Answers out) (leb (length bytes) (length out)) (wrote (written.Refused 11) out) (wrote (written.Bytes (length bytes)) (laid bytes out))
+    unless_elim (Answers out) (leb (length bytes) (length out)) (wrote (Err 11) out) (wrote (Ok (length bytes)) (laid bytes out))
     (λ t. ((omega arith, omega arith), refl)) (λ t. omega arith)
 
 fault_refused : (h : Header) → eqb (fault_of h) 0 ≡ false → IsRefusal (fault_of h)
@@ -80,14 +79,14 @@ fault_refused h t = (omega (arith, eqb-false (fault_of h) 0 t), omega (arith, fa
 pub header_answers : (h : Header) (out : List ℕ) → Answers out (write_header_of h out)
 unfolding write_header_of
 header_answers h out =
-    unless_elim (Answers out) (eqb (fault_of h) 0) (wrote (written.Refused (fault_of h)) out) (put_of (header_bytes h) out) (λ t. (fault_refused h t, refl))
+    unless_elim (Answers out) (eqb (fault_of h) 0) (wrote (Err (fault_of h)) out) (put_of (header_bytes h) out) (λ t. (fault_refused h t, refl))
     (λ t. put_answers (header_bytes h) out (omega (arith, header_length h, header_range h.version)))
 
 pub frame_answers : (h : Header) (p out : List ℕ) → Answers out (write_of h p out)
 unfolding write_of
 frame_answers h p out =
-    unless_elim (Answers out) (eqb (fault_of h) 0) (wrote (written.Refused (fault_of h)) out) _ (λ t. (fault_refused h t, refl)) λ t.
-    unless_elim (Answers out) (eqb h.size (length p)) (wrote (written.Refused 6) out) (put_of (frame_bytes h p) out)
+    unless_elim (Answers out) (eqb (fault_of h) 0) (wrote (Err (fault_of h)) out) _ (λ t. (fault_refused h t, refl)) λ t.
+    unless_elim (Answers out) (eqb h.size (length p)) (wrote (Err 6) out) (put_of (frame_bytes h p) out)
     (λ u. ((omega arith, omega arith), refl))
     (λ u.
     let same : h.size ≡ length p = eqb-true h.size (length p) u in
@@ -121,11 +120,6 @@ frame_fits h p out = with_room out (write_of h p out) (frame_answers h p out)
 pub send_fits : (o : Outgoing) (k : ℕ) (m out : List ℕ) → o.message.0 < 2 ^ 32 → WrittenFits (send_of o k m out).answer
 send_fits o k m out small = with_room out (send_of o k m out) (send_answers o k m out small)
 
--- what a writer's call leaves, from the answer that it got
-pub as_answered : (value : ℕ) (r : Result) (a : Written) (o : List ℕ) (w : Wrote) → r ≡ written_result value a → wrote a o ≡ w
-    → record { result = r; lent = o } ≡ answered value w
-as_answered value r a o w e f = rw e (ap (answered value) f)
-
 -- ---- what a result says of an answer, where the lent number was value
 
 abbrev pub TellsReading : ℕ → Reading → Result → Type 0
@@ -133,18 +127,18 @@ TellsReading value (Frame h e) r = (r.status ≡ 0) × (r.value ≡ e.consumed)
 TellsReading value (Refused n) r = (r.status ≡ n) × ((r.value ≡ value) × IsRefusal n)
 TellsReading value (Short n) r = (r.status ≡ 128) × (r.value ≡ n)
 
-abbrev pub TellsWritten : ℕ → Written → Result → Type 0
-TellsWritten value (written.Bytes n) r = (r.status ≡ 0) × (r.value ≡ n)
-TellsWritten value (written.Refused n) r = (r.status ≡ n) × ((r.value ≡ value) × IsRefusal n)
+abbrev pub TellsWritten : ℕ → Answer ℕ ℕ → Result → Type 0
+TellsWritten value (Ok n) r = (r.status ≡ 0) × (r.value ≡ n)
+TellsWritten value (Err n) r = (r.status ≡ n) × ((r.value ≡ value) × IsRefusal n)
 
 reading_told : (value : ℕ) (r : Reading) → ReadingFits r → TellsReading value r (reading_result value r)
 reading_told value (Frame h e) f = (refl, refl)
 reading_told value (Refused n) f = (refl, (refl, f))
 reading_told value (Short n) f = (refl, refl)
 
-written_told : (value : ℕ) (w : Written) → WrittenFits w → TellsWritten value w (written_result value w)
-written_told value (written.Bytes n) f = (refl, refl)
-written_told value (written.Refused n) f = (refl, (refl, f))
+written_told : (value : ℕ) (w : Answer ℕ ℕ) → WrittenFits w → TellsWritten value w (written_result value w)
+written_told value (Ok n) f = (refl, refl)
+written_told value (Err n) f = (refl, (refl, f))
 
 pub read_frame_told : (bytes fields : List ℕ) (value : ℕ) → TellsReading value (heard fields (read_of bytes)) (tilambok_read_frame bytes fields value).result
 read_frame_told bytes fields value = reading_told value (heard fields (read_of bytes)) (heard_fits fields (read_of bytes) (reading_fits bytes))

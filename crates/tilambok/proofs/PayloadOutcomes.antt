@@ -1,5 +1,6 @@
 -- The ways of the functions: the fields laid piece by piece, and what is told of each answer of the reader.
 -- Assumes nothing.
+use Rattle.std.proofs.Common.{Result as Answer, Ok}
 use Prim.Native.Nat.{ℕ, ◌≤◌, ◌<◌}
 use mathlib.Core.Path.{◌≡◌, refl, ap, ◌∙◌, sym}
 use mathlib.Core.List.{List, [], ◌∷◌, ◌++◌}
@@ -16,8 +17,8 @@ use Rattle.rpc.specs.declared.Form.{Form}
 use Rattle.rpc.specs.declared.Fields.{Fields}
 use Rattle.rpc.specs.declared.Header.{Header}
 use Rattle.rpc.specs.declared.Parts.{Parts}
-use Rattle.rpc.specs.declared.Reading.{Reading}
-use Rattle.rpc.specs.declared.Reading.TheVariants.{Message, Bare}
+use Rattle.rpc.specs.declared.Content.{Content}
+use Rattle.rpc.specs.declared.Content.TheVariants.{Message, Bare}
 use Rattle.rpc.proofs.Answers.{is_message, is_bare_lem}
 use Rattle.tilambok.specs.Status.{Result, done, left}
 use Rattle.tilambok.specs.Payloads.{field_bytes, no_fields, told, read_in}
@@ -50,9 +51,9 @@ unfolding told
 told_few headed begins f fields value s h e = rw (lt-leb 16 (length fields) h, e)
 
 -- what is told where the answer x is a message: f is what code made of it
-module _ (form : Form) (version : ℕ) (s : List ℕ) (x : Reading) (h : Header) (size : ℕ) (p : Parts) (f : Fields) (e : x ≡ read_of form version s)
-    (g : x ≡ Message h size p) (i : f ≡ fields_of h size) where
-  read : read_of form version s ≡ Message h size p
+module _ (form : Form) (version : ℕ) (s : List ℕ) (x : Answer Content ℕ) (h : Header) (size : ℕ) (p : Parts) (f : Fields) (e : x ≡ read_of form version s)
+    (g : x ≡ Ok (Message h size p)) (i : f ≡ fields_of h size) where
+  read : read_of form version s ≡ Ok (Message h size p)
   read = sym e ∙ g
 
   pub as_message : (fields : List ℕ) (value : ℕ) → told 1 12 f fields value ≡ read_in form version s fields value
@@ -61,10 +62,10 @@ module _ (form : Form) (version : ℕ) (s : List ℕ) (x : Reading) (h : Header)
       rw (read, begins, i)
 
 -- and where it is JSON alone
-pub as_bare : (form : Form) (version : ℕ) (s fields : List ℕ) (value : ℕ) (x : Reading) (p : Parts) (f : Fields) → x ≡ read_of form version s → x ≡ Bare p
+pub as_bare : (form : Form) (version : ℕ) (s fields : List ℕ) (value : ℕ) (x : Answer Content ℕ) (p : Parts) (f : Fields) → x ≡ read_of form version s → x ≡ Ok (Bare p)
     → f ≡ no_fields
     → told 0 0 f fields value ≡ read_in form version s fields value
 as_bare form version s fields value x p f e g i =
-    let r : read_of form version s ≡ Bare p = sym e ∙ g in
+    let r : read_of form version s ≡ Ok (Bare p) = sym e ∙ g in
     let begins : p.json ≡ 0 = ap (λ (q : Parts). q.json) (is_bare_lem form version s p r).parts in
     rw (r, begins, i)

@@ -1,5 +1,6 @@
 -- A result tells which answer it was, for every call; a form's number names it; a writer that is done wrote what its result says;
 -- fields are taken apart again. By the laws of payloads. Assumes nothing.
+use Rattle.std.proofs.Common.{Result as Answer, Ok, Err, Option, Some, None}
 use Prim.Native.Nat.{ℕ, ◌+◌, ◌^◌, ◌≤◌, ◌<◌}
 use mathlib.Core.Path.{◌≡◌, refl, ap, ◌∙◌, sym}
 use mathlib.Core.Bool.{Bool}
@@ -15,8 +16,6 @@ use Rattle.numbers.proofs.Laws.{length_be, read_written_be}
 use Rattle.numbers.proofs.Choices.{either, unless_elim}
 use Rattle.frame.specs.Rules.{known_version}
 use Rattle.frame.specs.Write.{Wrote, wrote, put_of}
-use Rattle.frame.specs.declared.Written.{Written}
-use Rattle.frame.specs.declared.Written.TheVariants as written
 use Rattle.rpc.specs.Rules.{form_of, is_bare, kind_fits, id_fits, may_end, fault_of}
 use Rattle.rpc.specs.Layout.{header_of, form_in, fields_of}
 use Rattle.rpc.specs.Read.{read_of}
@@ -24,13 +23,11 @@ use Rattle.rpc.specs.Write.{message_bytes, fault_for, whole_of, bare_of, write_o
 use Rattle.rpc.specs.ReadBack.{Reason, unknown, short, kind, id, past, after}
 use Rattle.rpc.specs.declared.Form.{Form}
 use Rattle.rpc.specs.declared.Form.TheVariants.{Rpc, Bulk, Query}
-use Rattle.rpc.specs.declared.Carried.{Carried}
-use Rattle.rpc.specs.declared.Carried.TheVariants.{InForm, Nothing}
 use Rattle.rpc.specs.declared.Fields.{Fields}
 use Rattle.rpc.specs.declared.Header.{Header}
 use Rattle.rpc.specs.declared.Parts.{Parts}
-use Rattle.rpc.specs.declared.Reading.{Reading}
-use Rattle.rpc.specs.declared.Reading.TheVariants.{Message, Bare, Refused}
+use Rattle.rpc.specs.declared.Content.{Content}
+use Rattle.rpc.specs.declared.Content.TheVariants.{Message, Bare}
 use Rattle.rpc.proofs.Answers.{is_message, is_bare_lem, refusals}
 use Rattle.rpc.proofs.Buffers.{message_length}
 use Rattle.rpc.proofs.ThereAndBack.{form_back}
@@ -39,13 +36,13 @@ use Rattle.tilambok.specs.Payloads.{form_from, form_number, form_result, field_b
 
 -- ---- forms
 
-pub form_named : (form : Form) → form_from (form_number form) ≡ InForm form
+pub form_named : (form : Form) → form_from (form_number form) ≡ Some form
 unfolding form_from
 form_named Rpc = refl
 form_named Bulk = refl
 form_named Query = refl
 
-pub not_named : (n : ℕ) → 2 < n → form_from n ≡ Nothing
+pub not_named : (n : ℕ) → 2 < n → form_from n ≡ None
 unfolding form_from
 not_named n h = rw (ne_eqb n 0 (λ e. omega arith), ne_eqb n 1 (λ e. omega arith), ne_eqb n 2 (λ e. omega arith))
 
@@ -57,16 +54,16 @@ Tells status value r = (r.status ≡ status) × (r.value ≡ value)
 abbrev pub TellsRefusal : ℕ → ℕ → Result → Type 0
 TellsRefusal value n r = Tells n value r × IsRefusal n
 
-abbrev pub TellsForm : ℕ → Carried → Result → Type 0
-TellsForm value (InForm form) r = Tells 0 (form_number form) r
-TellsForm value Nothing r = TellsRefusal value 10 r
+abbrev pub TellsForm : ℕ → Option Form → Result → Type 0
+TellsForm value (Some form) r = Tells 0 (form_number form) r
+TellsForm value None r = TellsRefusal value 10 r
 
 pub form_told : (service value : ℕ) → TellsForm value (form_of (record { 0 = service })) (tilambok_rpc_form service value)
 form_told service value = told_of (form_of (record { 0 = service }))
   where
-    told_of : (c : Carried) → TellsForm value c (form_result value c)
-    told_of (InForm form) = (refl, refl)
-    told_of Nothing = ((refl, refl), (omega arith, omega arith))
+    told_of : (c : Option Form) → TellsForm value c (form_result value c)
+    told_of (Some form) = (refl, refl)
+    told_of None = ((refl, refl), (omega arith, omega arith))
 
 -- ---- the reader
 
@@ -82,10 +79,10 @@ refusal_range form version s n (after j l a b c r) = (omega arith, omega arith)
 abbrev pub TellsRead : List ℕ → ℕ → ℕ → Result → Type 0
 TellsRead fields value begins r = (16 ≤ length fields → Tells 0 begins r) × (length fields < 16 → TellsRefusal value 11 r)
 
-abbrev pub TellsReading : List ℕ → ℕ → Reading → Result → Type 0
-TellsReading fields value (Message h size p) r = TellsRead fields value 12 r
-TellsReading fields value (Bare p) r = TellsRead fields value 0 r
-TellsReading fields value (Refused n) r = TellsRefusal value n r
+abbrev pub TellsReading : List ℕ → ℕ → Answer Content ℕ → Result → Type 0
+TellsReading fields value (Ok (Message h size p)) r = TellsRead fields value 12 r
+TellsReading fields value (Ok (Bare p)) r = TellsRead fields value 0 r
+TellsReading fields value (Err n) r = TellsRefusal value n r
 
 told_tells : (headed begins : ℕ) (f : Fields) (fields : List ℕ) (value : ℕ) → TellsRead fields value begins (told headed begins f fields value).result
 unfolding told
@@ -96,14 +93,14 @@ pub read_told : (form : Form) (version : ℕ) (payload fields : List ℕ) (value
     → TellsReading fields value (read_of form version payload) (tilambok_read_rpc (form_number form) version payload fields value).result
 read_told form version payload fields value = rw (form_named form) (tells (read_of form version payload) refl)
   where
-    tells : (r : Reading) → read_of form version payload ≡ r → TellsReading fields value r (read_in form version payload fields value).result
-    tells (Message h size p) e =
+    tells : (r : Answer Content ℕ) → read_of form version payload ≡ r → TellsReading fields value r (read_in form version payload fields value).result
+    tells (Ok (Message h size p)) e =
         let b : p.json ≡ 12 = ap (λ (q : Parts). q.json) (is_message form version payload h size p e).parts in
         rw (e, b) (told_tells 1 12 (fields_of h size) fields value)
-    tells (Bare p) e =
+    tells (Ok (Bare p)) e =
         let b : p.json ≡ 0 = ap (λ (q : Parts). q.json) (is_bare_lem form version payload p e).parts in
         rw (e, b) (told_tells 0 0 no_fields fields value)
-    tells (Refused n) e = rw e ((refl, refl), refusal_range form version payload n (refusals.why form version payload n e))
+    tells (Err n) e = rw e ((refl, refl), refusal_range form version payload n (refusals.why form version payload n e))
 
 pub read_no_form : (n version : ℕ) (payload fields : List ℕ) (value : ℕ) → 2 < n → tilambok_read_rpc n version payload fields value ≡ left 10 fields value
 read_no_form n version payload fields value h = rw (not_named n h)
@@ -124,17 +121,17 @@ fault_most form f fits ends =
     unless_elim P (may_end form ends) 44 0 (λ t. omega arith) (λ t. omega arith)
 
 -- so many bytes are written, or the number is a refusal's and out is as it was
-abbrev pub AnswerSays : List ℕ → ℕ → Written → List ℕ → Type 0
-AnswerSays out n (written.Bytes m) b = m ≡ n
-AnswerSays out n (written.Refused m) b = IsRefusal m × (b ≡ out)
+abbrev pub AnswerSays : List ℕ → ℕ → Answer ℕ ℕ → List ℕ → Type 0
+AnswerSays out n (Ok m) b = m ≡ n
+AnswerSays out n (Err m) b = IsRefusal m × (b ≡ out)
 
 abbrev pub WriteSays : List ℕ → ℕ → Wrote → Type 0
 WriteSays out n w = AnswerSays out n w.answer w.out
 
 put_says : (bytes out : List ℕ) (n : ℕ) → length bytes ≡ n → WriteSays out n (put_of bytes out)
 put_says bytes out n e =
-    unless_elim (WriteSays out n) (leb (length bytes) (length out)) (wrote (written.Refused 11) out)
-    (wrote (written.Bytes (length bytes)) (laid bytes out)) (λ t. ((omega arith, omega arith), refl)) (λ t. e)
+    unless_elim (WriteSays out n) (leb (length bytes) (length out)) (wrote (Err 11) out)
+    (wrote (Ok (length bytes)) (laid bytes out)) (λ t. ((omega arith, omega arith), refl)) (λ t. e)
 
 write_says : (version : ℕ) (h : Header) (size : ℕ) (json bulk out : List ℕ)
     → WriteSays out (start (form_in h) version + length json + length bulk) (write_of version h size json bulk out)
@@ -143,17 +140,17 @@ write_says version h size json bulk out =
     let n : ℕ = start (form_in h) version + length json + length bulk in
     let P : Wrote → Type 0 = WriteSays out n in
     let f : ℕ = fault_for h size json bulk in
-    unless_elim P (known_version version) (wrote (written.Refused 1) out) _ (λ t. ((omega arith, omega arith), refl)) λ k.
+    unless_elim P (known_version version) (wrote (Err 1) out) _ (λ t. ((omega arith, omega arith), refl)) λ k.
     either P (is_bare (form_in h) version) (bare_of json bulk out) (whole_of h size json bulk out)
-    (λ b. unless_elim P (eqb (length bulk) 0) (wrote (written.Refused 44) out) (put_of json out) (λ t. ((omega arith, omega arith), refl))
+    (λ b. unless_elim P (eqb (length bulk) 0) (wrote (Err 44) out) (put_of json out) (λ t. ((omega arith, omega arith), refl))
     (λ t. put_says json out n (rw b (omega (arith, eqb-true (length bulk) 0 t)))))
-    (λ b. unless_elim P (eqb f 0) (wrote (written.Refused f) out) (put_of (message_bytes h size json bulk) out)
+    (λ b. unless_elim P (eqb f 0) (wrote (Err f) out) (put_of (message_bytes h size json bulk) out)
     (λ t. ((omega (arith, eqb-false f 0 t), omega (arith, fault_most (form_in h) (fields_of h size) (eqb size (length json)) (eqb (length bulk) 0))), refl))
     (λ t. put_says (message_bytes h size json bulk) out n (rw b (message_length h size json bulk))))
 
-abbrev pub TellsWritten : ℕ → ℕ → Written → Result → Type 0
-TellsWritten begins value (written.Bytes n) r = Tells 0 begins r
-TellsWritten begins value (written.Refused n) r = TellsRefusal value n r
+abbrev pub TellsWritten : ℕ → ℕ → Answer ℕ ℕ → Result → Type 0
+TellsWritten begins value (Ok n) r = Tells 0 begins r
+TellsWritten begins value (Err n) r = TellsRefusal value n r
 
 -- the writer's result, and how many bytes were written where it is done: those before the JSON, the JSON and the bulk data
 pub write_told : (form : Form) (version : ℕ) (f : Fields) (json bulk out : List ℕ) (value : ℕ)
@@ -166,9 +163,9 @@ write_told form version f json bulk out value =
     w : Wrote
     w = write_of version (header_of form f) f.size json bulk out
 
-    tells : (n : ℕ) (a : Written) → AnswerSays out n a w.out → TellsWritten (start form version) value a (written_from (start form version) value a)
-    tells n (written.Bytes m) s = (refl, refl)
-    tells n (written.Refused m) s = ((refl, refl), s.0)
+    tells : (n : ℕ) (a : Answer ℕ ℕ) → AnswerSays out n a w.out → TellsWritten (start form version) value a (written_from (start form version) value a)
+    tells n (Ok m) s = (refl, refl)
+    tells n (Err m) s = ((refl, refl), s.0)
 
 pub write_count : (form : Form) (version : ℕ) (f : Fields) (json bulk out : List ℕ)
     → WriteSays out (start form version + length json + length bulk) (write_of version (header_of form f) f.size json bulk out)

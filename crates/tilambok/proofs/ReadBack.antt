@@ -1,5 +1,6 @@
 -- What a C caller writes is read back by a C caller: by the laws of frames, since results tell answers, and fields tell headers.
 -- Assumes nothing.
+use Rattle.std.proofs.Common.{Result as Answer, Ok, Err}
 use Prim.Native.Nat.{ℕ, ◌^◌, ◌≤◌, ◌<◌}
 use mathlib.Core.Path.{◌≡◌, ap, ◌∙◌, sym, subst}
 use mathlib.Core.List.{List, ◌++◌}
@@ -12,8 +13,6 @@ use Rattle.frame.specs.declared.Header.{Header}
 use Rattle.frame.specs.declared.MessageId.{MessageId}
 use Rattle.frame.specs.declared.Reading.{Reading}
 use Rattle.frame.specs.declared.Reading.TheVariants.{Frame}
-use Rattle.frame.specs.declared.Written.{Written}
-use Rattle.frame.specs.declared.Written.TheVariants as written
 use Rattle.frame.specs.Read.{extent_of, read_of}
 use Rattle.frame.specs.Write.{Wrote, wrote, write_header_of, write_of}
 use Rattle.frame.specs.ReadBack.{as_read, ReadsAs}
@@ -48,9 +47,9 @@ fields_say bytes h payload small r = record {
         (read_frame_told (bytes ++ behind) fields value)
 
 -- 0 is told of a writer that is done, with the bytes written as its value
-done_told : (value : ℕ) (w : Written) (r : Result) → TellsWritten value w r → r.status ≡ 0 → w ≡ written.Bytes r.value
-done_told value (written.Bytes n) r t e = ap written.Bytes (sym t.1)
-done_told value (written.Refused n) r t e = absurd (omega (arith, t.0, t.1.1.0, e))
+done_told : (value : ℕ) (w : Answer ℕ ℕ) (r : Result) → TellsWritten value w r → r.status ≡ 0 → w ≡ Ok r.value
+done_told value (Ok n) r t e = ap Ok (sym t.1)
+done_told value (Err n) r t e = absurd (omega (arith, t.0, t.1.1.0, e))
 
 -- the message id that is read has 32 bits
 id_read : (h : Header) → h.message.0 < 2 ^ 32 → (as_read h).message.0 < 2 ^ 32
@@ -67,23 +66,23 @@ pub header_through_c : HeaderThroughC
 header_through_c h payload out value small done size =
     let w : Wrote = write_header_of h out in
     let r : Result = (tilambok_write_header h out value).result in
-    let answer : w.answer ≡ written.Bytes r.value = done_told value w.answer r (write_header_told h out value) done in
+    let answer : w.answer ≡ Ok r.value = done_told value w.answer r (write_header_told h out value) done in
     fields_say (take r.value w.out ++ payload) (as_read h) payload (id_read h small)
-    (header_read_back h payload out w.out r.value small (ap (λ (a : Written). wrote a w.out) answer) size)
+    (header_read_back h payload out w.out r.value small (ap (λ (a : Answer ℕ ℕ). wrote a w.out) answer) size)
 
 pub frame_through_c : FrameThroughC
 frame_through_c h payload out value small done =
     let w : Wrote = write_of h payload out in
     let r : Result = (tilambok_write_frame h payload out value).result in
-    let answer : w.answer ≡ written.Bytes r.value = done_told value w.answer r (write_frame_told h payload out value) done in
+    let answer : w.answer ≡ Ok r.value = done_told value w.answer r (write_frame_told h payload out value) done in
     fields_say (take r.value w.out) (as_read h) payload (id_read h small)
-    (frame_read_back h payload out w.out r.value small (ap (λ (a : Written). wrote a w.out) answer))
+    (frame_read_back h payload out w.out r.value small (ap (λ (a : Answer ℕ ℕ). wrote a w.out) answer))
 
 pub sent_through_c : SentThroughC
 sent_through_c o k message out value small done =
     let w : Wrote = send_of o k message out in
     let r : Result = (tilambok_send o k message out value).result in
-    let answer : w.answer ≡ written.Bytes r.value = done_told value w.answer r (send_told o k message out value small) done in
-    let sent = sent_told o k message out w.out r.value (ap (λ (a : Written). wrote a w.out) answer) in
+    let answer : w.answer ≡ Ok r.value = done_told value w.answer r (send_told o k message out value small) done in
+    let sent = sent_told o k message out w.out r.value (ap (λ (a : Answer ℕ ℕ). wrote a w.out) answer) in
     let back = ((sent_read_back o message sent.accepted small).each k sent.place).back in
     rw sent.bytes (fields_say _ _ _ (id_read (frame_at o message k).header (sent_id o message k small)) back)

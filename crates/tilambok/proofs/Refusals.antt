@@ -1,6 +1,7 @@
 -- What a status alone says: by cases of each function's answer, whose numbers have room (`FrameResults`, `PayloadResults`), and by what a refused call of the
 -- link keeps (state/proofs/Lists).
 -- Assumes nothing.
+use Rattle.std.proofs.Common.{Result, Ok, Err, Option, Some, None}
 use Prim.Native.Nat.{ℕ, ◌+◌, ◌≤◌}
 use mathlib.Core.Path.{◌≡◌, refl}
 use mathlib.Core.Logic.{◌⊎◌, inl, inr, ⊎_elim}
@@ -15,17 +16,14 @@ use Rattle.frame.specs.Write.{Wrote, write_header_of, write_of as frame_of}
 use Rattle.frame.specs.Read.{read_of}
 use Rattle.frame.specs.declared.Reading.{Reading}
 use Rattle.frame.specs.declared.Reading.TheVariants.{Frame, Refused, Short}
-use Rattle.frame.specs.declared.Written.{Written}
-use Rattle.frame.specs.declared.Written.TheVariants as written
 use Rattle.rpc.specs.Rules.{form_of}
 use Rattle.rpc.specs.Layout.{header_of, fields_of}
 use Rattle.rpc.specs.Read.{read_of as payload_of}
 use Rattle.rpc.specs.Write.{write_of}
+use Rattle.rpc.specs.declared.Form.{Form}
 use Rattle.rpc.specs.declared.Fields.{Fields}
-use Rattle.rpc.specs.declared.Carried.{Carried}
-use Rattle.rpc.specs.declared.Carried.TheVariants.{InForm, Nothing}
-use Rattle.rpc.specs.declared.Reading.{Reading as Payload}
-use Rattle.rpc.specs.declared.Reading.TheVariants as payload
+use Rattle.rpc.specs.declared.Content.{Content}
+use Rattle.rpc.specs.declared.Content.TheVariants as payload
 use Rattle.rpc.proofs.Answers.{refusals}
 use Rattle.sender.specs.Sender.{send_of}
 use Rattle.payload.specs.declared.version.Version.{Version}
@@ -62,15 +60,15 @@ read_plain fields value (Short n) f = plain_short fields value n
 write_plain : (out : List ℕ) (value : ℕ) (w : Wrote) → Answers out w → Plain out value (answered value w)
 write_plain out value w f = by w.answer f
   where
-    by : (a : Written) → AnswerFits out a w.out → Plain out value (record { result = written_result value a; lent = w.out })
-    by (written.Bytes n) g = plain_done out w.out value n
-    by (written.Refused n) g = rw g.1 (plain_refused out value n g.0)
+    by : (a : Result ℕ ℕ) → AnswerFits out a w.out → Plain out value (record { result = written_result value a; lent = w.out })
+    by (Ok n) g = plain_done out w.out value n
+    by (Err n) g = rw g.1 (plain_refused out value n g.0)
 
 -- ---- payloads
 
-form_plain : (value : ℕ) (c : Carried) → Plain [] value (record { result = form_result value c; lent = [] })
-form_plain value (InForm form) = plain_done [] [] value (form_number form)
-form_plain value Nothing = plain_refused [] value 10 (omega arith, omega arith)
+form_plain : (value : ℕ) (c : Option Form) → Plain [] value (record { result = form_result value c; lent = [] })
+form_plain value (Some form) = plain_done [] [] value (form_number form)
+form_plain value None = plain_refused [] value 10 (omega arith, omega arith)
 
 told_plain : (headed begins : ℕ) (f : Fields) (fields : List ℕ) (value : ℕ) → Plain fields value (told headed begins f fields value)
 unfolding told
@@ -78,26 +76,26 @@ told_plain headed begins f fields value =
     unless_elim (Plain fields value) (leb 16 (length fields)) (left 11 fields value) (left 0 (laid (field_bytes headed begins f) fields) begins)
     (λ t. plain_refused fields value 11 (omega arith, omega arith)) (λ t. plain_done fields _ value begins)
 
-read_rpc_plain : (version : ℕ) (s fields : List ℕ) (value : ℕ) (c : Carried) → Plain fields value (read_as c version s fields value)
-read_rpc_plain version s fields value Nothing = plain_refused fields value 10 (omega arith, omega arith)
-read_rpc_plain version s fields value (InForm form) = by (payload_of form version s) refl
+read_rpc_plain : (version : ℕ) (s fields : List ℕ) (value : ℕ) (c : Option Form) → Plain fields value (read_as c version s fields value)
+read_rpc_plain version s fields value None = plain_refused fields value 10 (omega arith, omega arith)
+read_rpc_plain version s fields value (Some form) = by (payload_of form version s) refl
   where
-    by : (r : Payload) → payload_of form version s ≡ r → Plain fields value (payloadLeft fields value r)
-    by (payload.Message h size p) e = told_plain 1 p.json (fields_of h size) fields value
-    by (payload.Bare p) e = told_plain 0 p.json no_fields fields value
-    by (payload.Refused n) e = plain_refused fields value n (refusal_range form version s n (refusals.why form version s n e))
+    by : (r : Result Content ℕ) → payload_of form version s ≡ r → Plain fields value (payloadLeft fields value r)
+    by (Ok (payload.Message h size p)) e = told_plain 1 p.json (fields_of h size) fields value
+    by (Ok (payload.Bare p)) e = told_plain 0 p.json no_fields fields value
+    by (Err n) e = plain_refused fields value n (refusal_range form version s n (refusals.why form version s n e))
 
-write_rpc_plain : (version : ℕ) (f : Fields) (json bulk out : List ℕ) (value : ℕ) (c : Carried) → Plain out value (write_as c version f json bulk out value)
-write_rpc_plain version f json bulk out value Nothing = plain_refused out value 10 (omega arith, omega arith)
-write_rpc_plain version f json bulk out value (InForm form) = by w.answer (write_count form version f json bulk out)
+write_rpc_plain : (version : ℕ) (f : Fields) (json bulk out : List ℕ) (value : ℕ) (c : Option Form) → Plain out value (write_as c version f json bulk out value)
+write_rpc_plain version f json bulk out value None = plain_refused out value 10 (omega arith, omega arith)
+write_rpc_plain version f json bulk out value (Some form) = by w.answer (write_count form version f json bulk out)
   where
     w : Wrote
     w = write_of version (header_of form f) f.size json bulk out
 
-    by : (a : Written) → AnswerSays out (start form version + length json + length bulk) a w.out
+    by : (a : Result ℕ ℕ) → AnswerSays out (start form version + length json + length bulk) a w.out
         → Plain out value (record { result = written_from (start form version) value a; lent = w.out })
-    by (written.Bytes n) g = plain_done out w.out value (start form version)
-    by (written.Refused n) g = rw g.1 (plain_refused out value n g.0)
+    by (Ok n) g = plain_done out w.out value (start form version)
+    by (Err n) g = rw g.1 (plain_refused out value n g.0)
 
 -- ---- the link
 

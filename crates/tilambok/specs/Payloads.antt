@@ -2,31 +2,27 @@
 -- Document 02, request A1: "Our smoke tester needs what is inside joined messages." The numbers of forms and the places of fields are ours, as the C header
 -- tells them.
 -- Assumes nothing.
-use Rattle.std.specs.Prelude.{ℕ, List, ◌∷◌, ◌++◌, eqb, leb, length, get_or}
+use Rattle.std.specs.Prelude.{ℕ, List, ◌∷◌, ◌++◌, eqb, leb, length, get_or, Option, None, Some, Result as Answer, Ok, Err}
 use Rattle.numbers.specs.Bytes.{part, pick, unless, laid}
 use Rattle.numbers.specs.Numbers.{bytes_be, value_be}
 use Rattle.frame.specs.Write.{Wrote}
-use Rattle.frame.specs.declared.Written.{Written}
-use Rattle.frame.specs.declared.Written.TheVariants as written
 use Rattle.rpc.specs.Rules.{form_of, is_bare}
 use Rattle.rpc.specs.Layout.{header_of, fields_of}
 use Rattle.rpc.specs.Read.{read_of}
 use Rattle.rpc.specs.Write.{write_of}
 use Rattle.rpc.specs.declared.Form.{Form}
 use Rattle.rpc.specs.declared.Form.TheVariants.{Rpc, Bulk, Query}
-use Rattle.rpc.specs.declared.Carried.{Carried}
-use Rattle.rpc.specs.declared.Carried.TheVariants.{InForm, Nothing}
 use Rattle.rpc.specs.declared.Fields.{Fields}
 use Rattle.rpc.specs.declared.Header.{Header}
-use Rattle.rpc.specs.declared.Reading.{Reading}
-use Rattle.rpc.specs.declared.Reading.TheVariants.{Message, Bare, Refused}
+use Rattle.rpc.specs.declared.Content.{Content}
+use Rattle.rpc.specs.declared.Content.TheVariants.{Message, Bare}
 use Rattle.tilambok.specs.Status.{Result, done, refused, Left, left}
 
 -- ---- forms
 
 -- a caller names a form by a number
-unfoldable pub form_from : ℕ → Carried
-form_from n = pick (eqb n 0) (InForm Rpc) (pick (eqb n 1) (InForm Bulk) (pick (eqb n 2) (InForm Query) Nothing))
+unfoldable pub form_from : ℕ → Option Form
+form_from n = pick (eqb n 0) (Some Rpc) (pick (eqb n 1) (Some Bulk) (pick (eqb n 2) (Some Query) None))
 
 abbrev pub form_number : Form → ℕ
 form_number Rpc = 0
@@ -34,9 +30,9 @@ form_number Bulk = 1
 form_number Query = 2
 
 -- done with the form's number, or refused with 10, "settings .. out of range"
-abbrev pub form_result : ℕ → Carried → Result
-form_result value (InForm form) = done (form_number form)
-form_result value Nothing = refused value 10
+abbrev pub form_result : ℕ → Option Form → Result
+form_result value (Some form) = done (form_number form)
+form_result value None = refused value 10
 
 -- what tilambok_rpc_form leaves
 abbrev pub tilambok_rpc_form : ℕ → ℕ → Result
@@ -65,18 +61,18 @@ unfoldable pub told : ℕ → ℕ → Fields → List ℕ → ℕ → Left
 told headed begins f fields value = unless (leb 16 (length fields)) (left 11 fields value) (left 0 (laid (field_bytes headed begins f) fields) begins)
 
 -- what a reading leaves to a caller who lends these fields and this number; a refusal writes nothing
-abbrev pub left_by : List ℕ → ℕ → Reading → Left
-left_by fields value (Message h size p) = told 1 p.json (fields_of h size) fields value
-left_by fields value (Bare p) = told 0 p.json no_fields fields value
-left_by fields value (Refused n) = left n fields value
+abbrev pub left_by : List ℕ → ℕ → Answer Content ℕ → Left
+left_by fields value (Ok (Message h size p)) = told 1 p.json (fields_of h size) fields value
+left_by fields value (Ok (Bare p)) = told 0 p.json no_fields fields value
+left_by fields value (Err n) = left n fields value
 
 abbrev pub read_in : Form → ℕ → List ℕ → List ℕ → ℕ → Left
 read_in form version payload fields value = left_by fields value (read_of form version payload)
 
 -- a number that names no form is refused with 10, first
-abbrev pub read_as : Carried → ℕ → List ℕ → List ℕ → ℕ → Left
-read_as (InForm form) version payload fields value = read_in form version payload fields value
-read_as Nothing version payload fields value = left 10 fields value
+abbrev pub read_as : Option Form → ℕ → List ℕ → List ℕ → ℕ → Left
+read_as (Some form) version payload fields value = read_in form version payload fields value
+read_as None version payload fields value = left 10 fields value
 
 -- what tilambok_read_rpc leaves, its result and the fields
 abbrev pub tilambok_read_rpc : ℕ → ℕ → List ℕ → List ℕ → ℕ → Left
@@ -89,9 +85,9 @@ unfoldable pub start : Form → ℕ → ℕ
 start form version = pick (is_bare form version) 0 12
 
 -- done with the place where the JSON begins; so many bytes and those of JSON and bulk data are written. Else refused
-abbrev pub written_from : ℕ → ℕ → Written → Result
-written_from begins value (written.Bytes n) = done begins
-written_from begins value (written.Refused n) = refused value n
+abbrev pub written_from : ℕ → ℕ → Answer ℕ ℕ → Result
+written_from begins value (Ok n) = done begins
+written_from begins value (Err n) = refused value n
 
 abbrev pub answered_from : ℕ → ℕ → Wrote → Left
 answered_from begins value w = record { result = written_from begins value w.answer; lent = w.out }
@@ -99,9 +95,9 @@ answered_from begins value w = record { result = written_from begins value w.ans
 abbrev pub write_in : Form → ℕ → Header → ℕ → List ℕ → List ℕ → List ℕ → ℕ → Left
 write_in form version h size json bulk out value = answered_from (start form version) value (write_of version h size json bulk out)
 
-abbrev pub write_as : Carried → ℕ → Fields → List ℕ → List ℕ → List ℕ → ℕ → Left
-write_as (InForm form) version f json bulk out value = write_in form version (header_of form f) f.size json bulk out value
-write_as Nothing version f json bulk out value = left 10 out value
+abbrev pub write_as : Option Form → ℕ → Fields → List ℕ → List ℕ → List ℕ → ℕ → Left
+write_as (Some form) version f json bulk out value = write_in form version (header_of form f) f.size json bulk out value
+write_as None version f json bulk out value = left 10 out value
 
 -- what tilambok_write_rpc leaves, its result and the out buffer
 abbrev pub tilambok_write_rpc : ℕ → ℕ → Fields → List ℕ → List ℕ → List ℕ → ℕ → Left

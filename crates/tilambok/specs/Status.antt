@@ -2,10 +2,8 @@
 -- Document 01: "When an answer is an enum, the promises use a definition that gives this paper's number and values for each case." A refusal's status is the
 -- paper's number; 0 for done and 128 for Short are ours, as the C header tells them. No refusal has these numbers.
 -- Assumes nothing.
-use Rattle.std.specs.Prelude.{ℕ, ◌^◌, ◌≤◌, ◌<◌, List}
+use Rattle.std.specs.Prelude.{ℕ, ◌^◌, ◌≤◌, ◌<◌, List, Result as Answer, Ok, Err}
 use Rattle.frame.specs.Write.{Wrote}
-use Rattle.frame.specs.declared.Written.{Written}
-use Rattle.frame.specs.declared.Written.TheVariants.{Bytes, Refused}
 
 -- the status, and the lent number as the call left it
 pub record Result : Type 0 where
@@ -35,9 +33,9 @@ abbrev pub left : ℕ → List ℕ → ℕ → Left
 left s b v = record { result = result_of s v; lent = b }
 
 -- a writer's answer: done with the bytes written, or refused
-abbrev pub written_result : ℕ → Written → Result
-written_result value (Bytes n) = done n
-written_result value (Refused n) = refused value n
+abbrev pub written_result : ℕ → Answer ℕ ℕ → Result
+written_result value (Ok n) = done n
+written_result value (Err n) = refused value n
 
 -- the same, with the out buffer as the writer left it
 abbrev pub answered : ℕ → Wrote → Left
@@ -48,6 +46,6 @@ abbrev pub IsRefusal : ℕ → Type 0
 IsRefusal n = (1 ≤ n) × (n < 128)
 
 -- a value has room in its 32 bits
-abbrev pub WrittenFits : Written → Type 0
-WrittenFits (Bytes n) = n < 2 ^ 32
-WrittenFits (Refused n) = IsRefusal n
+abbrev pub WrittenFits : Answer ℕ ℕ → Type 0
+WrittenFits (Ok n) = n < 2 ^ 32
+WrittenFits (Err n) = IsRefusal n

@@ -1,6 +1,6 @@
 // The frame reader and the frame writers for C: numbers and lent bytes in; a status, a value and bytes out.
 ghost use Rattle.std.specs.Prelude.{◌≡◌, ◌≤◌, length};
-ghost use Rattle.numbers.specs.Bytes.{pick, laid, put_at};
+ghost use Rattle.numbers.specs.Bytes.{laid, put_at};
 ghost use Rattle.numbers.specs.Numbers.{bytes_be};
 ghost use Rattle.frame.specs.Rules.{header_size};
 ghost use Rattle.frame.specs.Read.{front_of, message_of, with_message};
@@ -8,6 +8,7 @@ ghost use Rattle.tilambok.specs.Status.{result_of, left};
 ghost use Rattle.tilambok.specs.Frames.{reading_result, ReadingFits, field_bytes, header_from, tilambok_read_frame, tilambok_write_header, tilambok_write_frame};
 
 use crate::status;
+use figures::refusal::Refusal;
 use frame::{Header, MessageId, Reading, ServiceType, SessionId};
 
 // How many bytes tell a frame's header and where its payload starts.
@@ -20,15 +21,9 @@ fn reading_status(reading: Reading, value: &mut u32) -> u32
 {
     match reading {
         Reading::Frame(_, extent) => status::done(extent.consumed as u32, value),
-        Reading::Refused(number) => status::refused(number),
+        Reading::Refused(refusal) => status::refused(refusal),
         Reading::Short(needed) => status::short(needed as u32, value),
     }
-}
-
-fn flag_byte(flag: bool) -> u8
-    ensures { result ≡ pick flag 1 0 }
-{
-    if flag { 1 } else { 0 }
 }
 
 // The message id's four bytes as they stand in the frame, or 0 where it has none.
@@ -52,7 +47,7 @@ fn put_fields(bytes: &[u8], header: Header, start: u8, fields: &mut [u8])
     put_message(bytes, header, fields);
     numbers::put_be4(fields, 8, numbers::be4(bytes, 4));
     fields[0] = header.version;
-    fields[1] = flag_byte(header.flag);
+    fields[1] = u8::from(header.flag);
     fields[2] = header.kind;
     fields[3] = bytes[1];
     fields[4] = bytes[2];
@@ -96,7 +91,7 @@ pub extern "C" fn tilambok_read_frame(bytes: &[u8], fields: &mut [u8], value: &m
         return reading_status(reading, value);
     };
     if fields.len() < FIELDS {
-        return status::refused(frame::refusal::OUT_TOO_SMALL);
+        return status::refused(Refusal::TOO_SMALL);
     }
     // Stored behind the fields, the value would share one store with that of Short, a jump away.
     let done = status::done(extent.consumed as u32, value);

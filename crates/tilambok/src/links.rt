@@ -34,7 +34,7 @@ fn tell(answer: Answer, service: &mut u8, consumed: &mut u32, value: &mut u32) -
 {
     match answer {
         Answer::Short(needed) => status::short(needed as u32, value),
-        Answer::Refused(number) => status::refused(number),
+        Answer::Refused(refusal) => status::refused(refusal),
         Answer::Acked(taken, length) => accepted(ACK, taken, length, consumed, value),
         Answer::Nacked(taken, length) => accepted(NAK, taken, length, consumed, value),
         Answer::Beat(taken, length) => accepted(HEARTBEAT_ACK, taken, length, consumed, value),
@@ -87,5 +87,8 @@ pub extern "C" fn tilambok_link_create(
         minor,
         patch,
     };
-    status::refused(headunit::create(state, version, mtu))
+    match headunit::create(state, version, mtu) {
+        Ok(()) => status::DONE,
+        Err(refusal) => status::refused(refusal),
+    }
 }

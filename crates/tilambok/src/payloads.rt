@@ -6,41 +6,35 @@ ghost use Rattle.tilambok.specs.Status.{result_of, left};
 ghost use Rattle.tilambok.specs.Payloads.{form_from, form_result, fields_from, field_bytes, no_fields, told, read_in, start, write_in, tilambok_read_rpc, tilambok_write_rpc, tilambok_rpc_form};
 
 use crate::status;
-use frame::{ServiceType, Written};
-use rpc::{Carried, Fields, Form, Header, Reading};
-
-// Document 01's number for settings out of range: here, for a form that there is not.
-const NO_FORM: u8 = 10;
+use figures::refusal::Refusal;
+use frame::ServiceType;
+use rpc::{Content, Fields, Form, Header};
 
 // How many bytes tell a header and where the JSON begins.
 const FIELDS: usize = 16;
 
-// The form that a caller's number names.
-fn form_from(number: u8) -> Carried
+// The form that a caller's number names: the numbers are the C interface's.
+#[tactic(auto, unfolding(crate::specs::Payloads::form_from))]
+fn form_from(number: u8) -> Option<Form>
     ensures { result ≡ form_from number }
 {
-    if number == 0 {
-        return Carried::InForm(Form::Rpc);
+    match number {
+        0 => Some(Form::Rpc),
+        1 => Some(Form::Bulk),
+        2 => Some(Form::Query),
+        _ => None,
     }
-    if number == 1 {
-        return Carried::InForm(Form::Bulk);
-    }
-    if number == 2 {
-        return Carried::InForm(Form::Query);
-    }
-    Carried::Nothing
 }
 
-fn form_status(carried: Carried, value: &mut u32) -> u32
+// The number of a form; a form that there is not is a setting out of range.
+fn form_status(carried: Option<Form>, value: &mut u32) -> u32
     ensures { result_of result value.new ≡ form_result value.old carried }
 {
     match carried {
-        Carried::InForm(form) => match form {
-            Form::Rpc => status::done(0, value),
-            Form::Bulk => status::done(1, value),
-            Form::Query => status::done(2, value),
-        },
-        Carried::Nothing => status::refused(NO_FORM),
+        Some(Form::Rpc) => status::done(0, value),
+        Some(Form::Bulk) => status::done(1, value),
+        Some(Form::Query) => status::done(2, value),
+        None => status::refused(Refusal::BAD_SETTINGS),
     }
 }
 
@@ -71,9 +65,9 @@ fn tell(headed: u8, begins: u8, f: Fields, fields: &mut [u8], value: &mut u32) -
     ensures { left result fields.new value.new ≡ told headed begins f fields.old value.old }
 {
     if fields.len() < FIELDS {
-        return status::refused(frame::refusal::OUT_TOO_SMALL);
+        return status::refused(Refusal::TOO_SMALL);
     }
-    let done = status::done(begins as u32, value);
+    let done = status::done(u32::from(begins), value);
     put_fields(headed, begins, f, fields);
     done
 }
@@ -95,19 +89,19 @@ fn read_in(form: Form, version: u8, payload: &[u8], fields: &mut [u8], value: &m
     ensures { left result fields.new value.new ≡ read_in form version payload.now fields.old value.old }
 {
     match rpc::read(form, version, payload) {
-        Reading::Message(header, size, _) => tell(
+        Ok(Content::Message(header, size, _)) => tell(
             1,
             12,
             rpc::fields_of(header, size),
             fields,
             value,
         ),
-        Reading::Bare(_) => tell(0, 0, no_fields(), fields, value),
-        Reading::Refused(number) => status::refused(number),
+        Ok(Content::Bare(_)) => tell(0, 0, no_fields(), fields, value),
+        Err(refusal) => status::refused(refusal),
     }
 }
 
-// The same, each form by a call of its own: so the compiler makes a way for each, with its constants.
+// The same, each form by a call of its own, which stays for speed: so the compiler makes a way for each, with its constants.
 fn read_known(form: Form, version: u8, payload: &[u8], fields: &mut [u8], value: &mut u32) -> u32
     ensures { left result fields.new value.new ≡ read_in form version payload.now fields.old value.old }
 {
@@ -129,10 +123,10 @@ pub extern "C" fn tilambok_read_rpc(
 ) -> u32
     ensures { left result fields.new value.new ≡ tilambok_read_rpc form version payload.now fields.old value.old }
 {
-    match form_from(form) {
-        Carried::InForm(known) => read_known(known, version, payload, fields, value),
-        Carried::Nothing => status::refused(NO_FORM),
-    }
+    let Some(known) = form_from(form) else {
+        return status::refused(Refusal::BAD_SETTINGS);
+    };
+    read_known(known, version, payload, fields, value)
 }
 
 // The header that a caller's numbers describe.
@@ -151,13 +145,11 @@ fn header_from(form: Form, kind: u8, id: u32, number: u32, size: u32) -> Header
 }
 
 // Where the JSON begins: behind the header, which RPC at version 1 does not have.
+#[tactic(auto, unfolding(crate::specs::Payloads::start))]
 fn start_of(form: Form, version: u8) -> u8
     ensures { result ≡ start form version }
 {
-    if rpc::is_bare(form, version) {
-        return 0;
-    }
-    12
+    if rpc::is_bare(form, version) { 0 } else { 12 }
 }
 
 // A payload in this form, to the front of out.
@@ -174,8 +166,8 @@ fn write_in(
     ensures { left result out.new value.new ≡ write_in form version header size json.now bulk.now out.old value.old }
 {
     match rpc::write(version, header, size, json, bulk, out) {
-        Written::Bytes(_) => status::done(start_of(form, version) as u32, value),
-        Written::Refused(number) => status::refused(number),
+        Ok(_) => status::done(u32::from(start_of(form, version)), value),
+        Err(refusal) => status::refused(refusal),
     }
 }
 
@@ -195,17 +187,9 @@ pub extern "C" fn tilambok_write_rpc(
 ) -> u32
     ensures { left result out.new value.new ≡ tilambok_write_rpc form version (fields_from kind id number size) json.now bulk.now out.old value.old }
 {
-    match form_from(form) {
-        Carried::InForm(known) => write_in(
-            known,
-            version,
-            header_from(known, kind, id, number, size),
-            size,
-            json,
-            bulk,
-            out,
-            value,
-        ),
-        Carried::Nothing => status::refused(NO_FORM),
-    }
+    let Some(known) = form_from(form) else {
+        return status::refused(Refusal::BAD_SETTINGS);
+    };
+    let header = header_from(known, kind, id, number, size);
+    write_in(known, version, header, size, json, bulk, out, value)
 }

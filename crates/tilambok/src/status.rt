@@ -3,7 +3,7 @@
 ghost use Rattle.std.specs.Prelude.{◌≡◌};
 ghost use Rattle.tilambok.specs.Status.{result_of, done, short, written_result, WrittenFits};
 
-use frame::Written;
+use figures::refusal::Refusal;
 
 pub const DONE: u32 = 0;
 
@@ -24,19 +24,19 @@ pub fn short(needed: u32, value: &mut u32) -> u32
 }
 
 // The lent number is not handed in: a refusal leaves it as it is.
-pub fn refused(number: u8) -> u32
-    ensures { result ≡ number }
+pub fn refused(refusal: Refusal) -> u32
+    ensures { result ≡ refusal }
 {
-    number as u32
+    u32::from(refusal.number())
 }
 
 // A writer's answer, with the bytes written as its value.
-pub fn written(answer: Written, value: &mut u32) -> u32
+pub fn written(answer: Result<usize, Refusal>, value: &mut u32) -> u32
     requires { WrittenFits answer }
     ensures { result_of result value.new ≡ written_result value.old answer }
 {
     match answer {
-        Written::Bytes(count) => done(count as u32, value),
-        Written::Refused(number) => refused(number),
+        Ok(count) => done(count as u32, value),
+        Err(refusal) => refused(refusal),
     }
 }

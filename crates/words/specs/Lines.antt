@@ -1,32 +1,36 @@
 -- What a whole line says, and the bytes of its last word or its last two: docs/DRIVER.md. Assumes nothing.
-use Rattle.std.specs.Prelude.{ℕ, ◌+◌, Bool, true, false, ◌&&◌, List, [], ◌∷◌, ◌++◌, eqb, ltb, length, take, drop, replicate}
+use Rattle.std.specs.Prelude.{ℕ, ◌+◌, Bool, true, false, ◌&&◌, List, [], ◌∷◌, ◌++◌, eqb, ltb, length, take, drop, replicate, Option, Result, Ok, Err}
+use Rattle.std.specs.Bool.{then_some}
 use Rattle.std.proofs.Math.Seq.{slice}
 use Rattle.lines.specs.Place.{index_of}
 use Rattle.numbers.specs.Bytes.{pick}
-use Rattle.lines.specs.declared.Decoded.{Decoded}
-use Rattle.lines.specs.declared.Decoded.TheVariants.{Bytes, Odd, NotHex, Full}
+use Rattle.lines.specs.declared.HexFault.{HexFault}
 use Rattle.lines.specs.Text.{every}
 use Rattle.lines.specs.Hex.{Decoding, decode_of, is_lower_hex}
-use Rattle.words.specs.declared.Form.{Form}
-use Rattle.words.specs.declared.Numbers.{Numbers}
+use Rattle.words.specs.declared.Kind.{Kind}
+use Rattle.words.specs.declared.Kind.TheVariants.{Unreadable, New, Silent, RpcWrite}
 use Rattle.words.specs.declared.Last.{Last}
 use Rattle.words.specs.declared.Command.{Command}
-use Rattle.words.specs.Words.{same_bytes, is_silent, word_end, between, numbers_of, form_of}
+use Rattle.words.specs.Words.{Form, NumbersRead, same_bytes, is_silent, word_end, between, numbers_of, form_of}
+
+-- how many bytes the last word says, or the last two together, and whether they can be read; the first of two says `first`
+pub record LastRead : Type 0 where
+  pub good : Bool
+  pub first : ℕ
+  pub count : ℕ
 
 -- what reading the last words leaves: its answer and the buffer for its bytes
 pub record LastLeft : Type 0 where
-  pub last : Last
+  pub last : LastRead
   pub content : List ℕ
 
-abbrev pub leaves : Last → List ℕ → LastLeft
+abbrev pub leaves : LastRead → List ℕ → LastLeft
 leaves last content = record { last = last; content = content }
 
 -- "HEX is lower-case hexadecimal, at least two digits": what decoding answers, where every digit is lower-case or not
-abbrev pub last_by : Bool → Decoded → Last
-last_by lower (Bytes n) = record { good = ltb 0 n && lower; first = 0; count = n }
-last_by lower Odd = record { good = false; first = 0; count = 0 }
-last_by lower NotHex = record { good = false; first = 0; count = 0 }
-last_by lower Full = record { good = false; first = 0; count = 0 }
+abbrev pub last_by : Bool → Result ℕ HexFault → LastRead
+last_by lower (Ok n) = record { good = ltb 0 n && lower; first = 0; count = n }
+last_by lower (Err f) = record { good = false; first = 0; count = 0 }
 
 abbrev pub decoded_word : Bool → Decoding → LastLeft
 decoded_word lower d = leaves (last_by lower d.answer) d.buffer
@@ -53,21 +57,24 @@ two_words line end content =
     with_second (between line (word_end line end) (length line)) (hex_word (between line end (word_end line end)) content)
 
 -- behind the numbers, which end at a position: nothing for `new`, two words for `rpcwrite`, else the rest of the line as one word
-unfoldable pub last_of : List ℕ → ℕ → ℕ → List ℕ → LastLeft
-last_of line kind end content =
-    pick (eqb kind 5) (leaves (record { good = eqb end (length line); first = 0; count = 0 }) content)
-    (pick (eqb kind 9) (two_words line end content)
-    (hex_word (between line end (length line)) content))
+unfoldable pub last_of : List ℕ → Kind → ℕ → List ℕ → LastLeft
+last_of line New end content = leaves (record { good = eqb end (length line); first = 0; count = 0 }) content
+last_of line RpcWrite end content = two_words line end content
+last_of line _ end content = hex_word (between line end (length line)) content
+
+-- the last words, where they can be read
+abbrev pub said_last : LastRead → Option Last
+said_last l = then_some l.good (record { first = l.first; count = l.count })
 
 -- a command with no words behind it
-abbrev pub bare_command : ℕ → Command
+abbrev pub bare_command : Kind → Command
 bare_command kind = record { kind = kind; values = replicate 9 0; lent = 0; first = 0; count = 0 }
 
--- "A line that cannot be read as one of the commands is answered `?`": 0 stands for it
-abbrev pub whole_of : ℕ → Numbers → Last → Command
+-- "A line that cannot be read as one of the commands is answered `?`"
+abbrev pub whole_of : Kind → NumbersRead → LastRead → Command
 whole_of kind n l =
     pick (n.good && l.good) (record { kind = kind; values = n.values; lent = n.lent; first = l.first; count = l.count })
-    (bare_command 0)
+    (bare_command Unreadable)
 
 -- what a line leaves: what it says, and the buffer for its bytes
 pub record Left : Type 0 where
@@ -78,21 +85,21 @@ abbrev pub leaving : Command → List ℕ → Left
 leaving command content = record { command = command; content = content }
 
 -- by its form, its numbers and what reading the last word left
-abbrev pub spoken_by : Form → Numbers → LastLeft → Left
+abbrev pub spoken_by : Form → NumbersRead → LastLeft → Left
 spoken_by form n l = leaving (whole_of form.kind n l.last) l.content
 
 -- where the first word ends
 abbrev pub name_end : List ℕ → ℕ
 name_end line = index_of 32 (slice 0 (length line) line)
 
-abbrev pub spoken : List ℕ → ℕ → Form → Numbers → List ℕ → Left
+abbrev pub spoken : List ℕ → ℕ → Form → NumbersRead → List ℕ → Left
 spoken line space form n content = spoken_by form n (last_of line form.kind n.end content)
 
 abbrev pub with_form : List ℕ → ℕ → Form → List ℕ → Left
 with_form line space form content = spoken line space form (numbers_of line space form) content
 
--- the whole line: 7 stands for one that gets no answer
+-- the whole line
 unfoldable pub command_of : List ℕ → List ℕ → Left
 command_of line content =
-    pick (is_silent line) (leaving (bare_command 7) content)
+    pick (is_silent line) (leaving (bare_command Silent) content)
     (with_form line (name_end line) (form_of (take (name_end line) line)) content)

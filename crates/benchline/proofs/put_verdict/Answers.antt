@@ -2,39 +2,21 @@
 -- Assumes nothing.
 use Rattle.std.proofs.Common.{[], ◌∷◌, arith, length-append}
 use Rattle.lines.specs.Hex.{hex_of}
-use Rattle.lines.specs.Decimal.{decimal_of}
 use Rattle.lines.proofs.Characters.{length_hex}
 use Rattle.benchline.specs.Line.{spaced}
-use Rattle.lines.proofs.Digits.{width_most}
 use Rattle.benchline.proofs.Texts.{spaced_most, spaced_service, front_short}
 use Rattle.benchline.proofs.put_verdict.Goals as goal
 
-pub returns-in-Refused-clause-upper_bound : goal.returns-in-Refused-clause-upper_bound
-returns-in-Refused-clause-upper_bound c =
-    omega (arith, c.put_refusal.ensures.ends, spaced_most (decimal_of c.in-Refused.number), width_most 2 c.in-Refused.number (omega arith))
-
 pub returns-in-Acked-clause-upper_bound : goal.returns-in-Acked-clause-upper_bound
 returns-in-Acked-clause-upper_bound c =
-    let q = c.front.result.now in
-    let short = front_short c.in-Acked.count c.args.out.now c.front.ensures in
+    let q = c.front-in-Acked.result.now in
+    let short = front_short c.in-Acked.count c.args.out.now c.front-in-Acked.ensures in
     omega (arith, c.put_reply.ensures.ends, spaced_most (hex_of q), length_hex q, short)
-
-pub returns-in-Nacked-clause-upper_bound : goal.returns-in-Nacked-clause-upper_bound
-returns-in-Nacked-clause-upper_bound c =
-    let q = c.front-in-Nacked.result.now in
-    let short = front_short c.in-Nacked.count c.args.out.now c.front-in-Nacked.ensures in
-    omega (arith, c.put_reply-in-Nacked.ensures.ends, spaced_most (hex_of q), length_hex q, short)
-
-pub returns-in-Beat-clause-upper_bound : goal.returns-in-Beat-clause-upper_bound
-returns-in-Beat-clause-upper_bound c =
-    let q = c.front-in-Beat.result.now in
-    let short = front_short c.in-Beat.count c.args.out.now c.front-in-Beat.ensures in
-    omega (arith, c.put_reply-in-Beat.ensures.ends, spaced_most (hex_of q), length_hex q, short)
 
 pub returns-in-Delivered-clause-upper_bound : goal.returns-in-Delivered-clause-upper_bound
 returns-in-Delivered-clause-upper_bound c =
     let s = c.in-Delivered.service.0 in
-    let q = c.front-in-Delivered.result.now in
-    let short = front_short c.in-Delivered.count c.args.out.now c.front-in-Delivered.ensures in
+    let q = c.front.result.now in
+    let short = front_short c.in-Delivered.count c.args.out.now c.front.ensures in
     let parts = length-append (spaced (hex_of (s ∷ []))) (spaced (hex_of q)) in
     omega (arith, c.put_delivery.ensures.ends, parts, spaced_service s, spaced_most (hex_of q), length_hex q, short)

@@ -15,13 +15,13 @@ overflow_sub-map c = c.loop-start.invariant.1.inside
 pub overflow_sub-wanted : goal.overflow_sub-wanted
 overflow_sub-wanted c =
     let l = c.loop-start in
-    omega (arith, part_some l.invariant.1 16 (omega arith) c.claim_all.ensures.entries_after (c.wide-wanted.ensures ∙ c.claim_all.ensures.value))
+    omega (arith, part_some l.invariant.1 16 (omega arith) c.claim_all.ensures.entries_after (c.from-wanted.ensures ∙ c.claim_all.ensures.value))
 
 -- a group more: it lies inside the map, and so many are wanted
 pub loop-start-preserved : goal.loop-start-preserved
 loop-start-preserved c =
     let l = c.loop-start in
-    let some = c.wide-wanted.ensures ∙ c.claim_all.ensures.value in (
+    let some = c.from-wanted.ensures ∙ c.claim_all.ensures.value in (
       part_size l.invariant.1 16 (omega arith) c.claim_all.ensures.entries_after ∙ l.invariant.0,
       claiming_part l.invariant.1 16 (omega arith) c.claim_all.ensures.entries_after (omega arith) some (omega arith) (omega arith),
     )

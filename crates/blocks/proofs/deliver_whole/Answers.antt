@@ -6,4 +6,4 @@ use Rattle.blocks.proofs.deliver_whole.Goals as goal
 pub returns : goal.returns
 returns c =
     let a = c.args in
-    deliver_whole a.owner.0 a.due a.map.now a.pool.now a.out c.least-most.ensures c.deliver_from.ensures
+    deliver_whole a.owner.0 a.due a.map.now a.pool.now a.out c.min-most.ensures c.deliver_from.ensures

@@ -1,43 +1,27 @@
 -- `blocks::fill` meets its contract. The loop's invariant is `Filling`; each of its ends is a law.
 -- Assumes nothing.
-use mathlib.Core.Path.{refl}
+use mathlib.Core.Path.{refl, sym, ◌∙◌}
+use borrow.Author.Tests.{eqb-true}
 use native.Mathlib.Omega.{arith}
-use Rattle.blocks.proofs.Appends.{filling_ends, filling_falls, filling-no-block, filling-no-pool, filling-starts, filling-turn}
+use Rattle.blocks.proofs.Appends.{filling_ends, filling-no-block, filling-no-pool, filling-turn}
+use Rattle.blocks.proofs.Turns.{found_in, found_none}
 use Rattle.blocks.proofs.fill.Goals as goal
 
-pub loop-done-init : goal.loop-done-init
-loop-done-init c = record {
-  inside = omega arith;
-  so_far = omega arith;
-  size = refl;
-  rest = refl;
-}
+pub loop-rest-init : goal.loop-rest-init
+loop-rest-init c = record { inside = omega arith; size = refl; whole = refl }
 
-pub returns-then-map-block : goal.returns-then-map-block
-returns-then-map-block c = filling-no-block c.loop-done.invariant c.scan-block.ensures c.if-map-block.true
+pub returns-in_default : goal.returns-in_default
+returns-in_default c = filling-no-block c.loop-rest.invariant refl (found_none _ _ c.scan.ensures c.in_default.is)
 
-pub overflow_mul-start : goal.overflow_mul-start
-overflow_mul-start c = omega (arith, filling-starts c.loop-done.invariant c.scan-block.ensures c.starts_inside.ensures c.if-starts_inside.true)
+pub returns-then-not-starts_inside : goal.returns-then-not-starts_inside
+returns-then-not-starts_inside c =
+    let found = found_in _ _ c.scan.ensures c.in-Some.is in
+    filling-no-pool c.loop-rest.invariant found.0 c.starts_inside.ensures c.if-not-starts_inside.true
 
-pub overflow_sub-pool : goal.overflow_sub-pool
-overflow_sub-pool c = omega (arith, filling-starts c.loop-done.invariant c.scan-block.ensures c.starts_inside.ensures c.if-starts_inside.true)
-
-pub overflow_add-end : goal.overflow_add-end
-overflow_add-end c = omega (arith, filling-starts c.loop-done.invariant c.scan-block.ensures c.starts_inside.ensures c.if-starts_inside.true)
-
-pub slice_bounds-overwrite-end-then-starts_inside : goal.slice_bounds-overwrite-end-then-starts_inside
-slice_bounds-overwrite-end-then-starts_inside c = omega (arith, filling-starts c.loop-done.invariant c.scan-block.ensures c.starts_inside.ensures c.if-starts_inside.true)
-
-pub loop-done-smaller : goal.loop-done-smaller
-loop-done-smaller c = filling_falls c.loop-done.invariant c.loop-done-test.true c.least-done.ensures
-
-pub loop-done-preserved : goal.loop-done-preserved
-loop-done-preserved c =
-    filling-turn c.loop-done.invariant c.scan-block.ensures c.starts_inside.ensures c.if-starts_inside.true c.if-map-block.false
-    refl c.least.ensures c.least-done.ensures c.overwrite.ensures
-
-pub returns-else-starts_inside : goal.returns-else-starts_inside
-returns-else-starts_inside c = filling-no-pool c.loop-done.invariant c.scan-block.ensures c.starts_inside.ensures c.if-starts_inside.false
+pub loop-rest-preserved : goal.loop-rest-preserved
+loop-rest-preserved c =
+    let found = found_in _ _ c.scan.ensures c.in-Some.is in
+    filling-turn c.loop-rest.invariant found.0 c.starts_inside.ensures c.if-not-starts_inside.false found.1 refl c.min.ensures c.min-taken.ensures c.overwrite.ensures
 
 pub returns : goal.returns
-returns c = filling_ends c.loop-done.invariant (omega arith)
+returns c = filling_ends c.loop-rest.invariant (eqb-true _ 0 (sym c.is_empty.ensures ∙ c.loop-rest-test.false))

@@ -1,31 +1,40 @@
 -- `blocks::held` meets its contract. The loop's invariant: what was counted and what is left to count make the whole count.
 -- Assumes nothing.
+use mathlib.Core.Path.{◌≡◌, ◌∙◌}
+use mathlib.Core.List.{List}
+use Prim.Native.Nat.{ℕ, ◌*◌}
 use native.Mathlib.Omega.{arith}
-use lib.ListN.{length-take, length-drop}
+use lib.ListN.{drop}
+use Rattle.blocks.specs.Map.{held_by}
 use Rattle.blocks.proofs.Counts.{held_most}
-use Rattle.blocks.proofs.Turns.{group_turn, rest_count}
+use Rattle.blocks.proofs.Turns.{held_group}
 use Rattle.blocks.proofs.held.Goals as goal
-
-pub count_group-requires : goal.count_group-requires
-count_group-requires c = simp (length-take, length-drop) (omega arith)
 
 pub overflow_add-count : goal.overflow_add-count
 overflow_add-count c =
     let a = c.args in
-    omega (arith, c.wide-count.ensures, group_turn a.owner.0 a.map.now c.loop-from.from.0 64 c.count_group.ensures, held_most a.owner.0 a.map.now)
+    let turn = held_group a.owner.0 a.map.now 64 c.loop-group.group-index _ c.as_chunks.ensures.front c.loop-group-test.true (c.from-count.ensures ∙ c.count_group.ensures) in
+    record { fits = omega (arith, turn, held_most a.owner.0 a.map.now) }
 
-pub loop-from-preserved : goal.loop-from-preserved
-loop-from-preserved c =
+pub loop-group-preserved : goal.loop-group-preserved
+loop-group-preserved c =
     let a = c.args in
-    (omega arith, omega (arith, c.wide-count.ensures, group_turn a.owner.0 a.map.now c.loop-from.from.0 64 c.count_group.ensures))
+    let turn = held_group a.owner.0 a.map.now 64 c.loop-group.group-index _ c.as_chunks.ensures.front c.loop-group-test.true (c.from-count.ensures ∙ c.count_group.ensures) in
+    omega arith
 
-pub count_group-requires-2 : goal.count_group-requires-2
-count_group-requires-2 c = simp (length-take, length-drop) (omega arith)
+-- those that are left
+rest_counted : (owner i k n : ℕ) (map : List ℕ) {rest : List ℕ} {r : ℕ} → rest ≡ drop (k * n) map → i ≡ k → r ≡ held_by owner rest → r ≡ held_by owner (drop (i * n) map)
+rest_counted owner i k n map e f g = rw (f, ← e) g
 
 pub overflow_add-result : goal.overflow_add-result
 overflow_add-result c =
     let a = c.args in
-    omega (arith, rest_count a.owner.0 a.map.now c.loop-from.from.0 c.count_group-2.ensures, held_most a.owner.0 a.map.now)
+    let l = c.loop-group in
+    let rest = rest_counted a.owner.0 l.group-index _ 64 a.map.now c.as_chunks.ensures.back (omega arith) (c.from.ensures ∙ c.count_group-2.ensures) in
+    record { fits = omega (arith, rest, held_most a.owner.0 a.map.now) }
 
 pub returns : goal.returns
-returns c = let a = c.args in omega (arith, rest_count a.owner.0 a.map.now c.loop-from.from.0 c.count_group-2.ensures)
+returns c =
+    let a = c.args in
+    let rest = rest_counted a.owner.0 c.loop-group.group-index _ 64 a.map.now c.as_chunks.ensures.back (omega arith) (c.from.ensures ∙ c.count_group-2.ensures) in
+    omega arith

@@ -1,16 +1,14 @@
--- `blocks::nth_block` meets its contract: the place lies inside the map, or it is the map's end.
+-- `blocks::nth_block` meets its contract: it is the same block among those from the group reached on.
 -- Assumes nothing.
-use borrow.Author.Tests.{lt-ltb, le-ltb}
-use Rattle.blocks.specs.Map.{nth_block}
+use mathlib.Core.Path.{◌≡◌, ap, ◌∙◌}
+use Prim.Native.Nat.{ℕ}
+use native.Mathlib.Omega.{arith}
+use Rattle.blocks.specs.Map.{nth_block, nth_from, nth_number, found_at}
 use Rattle.blocks.proofs.nth_block.Goals as goal
 
-pub find_block-block-requires : goal.find_block-block-requires
-find_block-block-requires c = tt
-
-pub returns-then-block-map : goal.returns-then-block-map
+pub returns : goal.returns
 unfolding nth_block
-returns-then-block-map c = rw (← c.find_block-block.ensures, lt-ltb _ _ c.if-block-map.true)
-
-pub returns-else-block-map : goal.returns-else-block-map
-unfolding nth_block
-returns-else-block-map c = rw (← c.find_block-block.ensures, le-ltb _ _ c.if-block-map.false)
+returns c =
+    let a = c.args in
+    let same : nth_from a.owner.0 c.skip-near.result.from.0 c.skip-near.result.left a.map.now ≡ nth_number a.owner.0 a.n a.map.now = omega arith in
+    c.scan.ensures ∙ ap (λ (k : ℕ). found_at k a.map.now) same

@@ -5,11 +5,8 @@ use Rattle.blocks.proofs.Over.{over_past}
 use Rattle.blocks.proofs.Parts.{overwritten}
 use Rattle.blocks.proofs.overwrite.Goals as goal
 
-pub least-n-requires : goal.least-n-requires
-least-n-requires c = tt
-
 pub returns-then-at-target : goal.returns-then-at-target
-returns-then-at-target c = let a = c.args in overwritten a.source.now a.target.now a.at c.if-at-target.true c.least-n.ensures c.copy_block.ensures
+returns-then-at-target c = let a = c.args in overwritten a.source.now a.target.now a.at c.if-at-target.true c.min-n.ensures c.copy_block.ensures
 
 pub returns-else-at-target : goal.returns-else-at-target
 returns-else-at-target c = let a = c.args in sym (over_past a.at a.source.now a.target.now c.if-at-target.false)

@@ -1,18 +1,14 @@
 -- `blocks::skip` meets its contract. The loop's invariant: the block looked for is the same from the block reached on as from the first.
 -- Assumes nothing.
+use mathlib.Core.Path.{◌∙◌}
 use native.Mathlib.Omega.{arith}
-use lib.ListN.{length-take, length-drop}
-use Rattle.blocks.proofs.Turns.{group_pass}
+use Rattle.blocks.proofs.Turns.{pass_group}
 use Rattle.blocks.proofs.skip.Goals as goal
 
-pub count_group-requires : goal.count_group-requires
-count_group-requires c = simp (length-take, length-drop) (omega arith)
-
-pub wide-here-requires : goal.wide-here-requires
-wide-here-requires c = tt
-
-pub loop-from-preserved : goal.loop-from-preserved
-loop-from-preserved c =
-    let l = c.loop-from in
+pub loop-group-preserved : goal.loop-group-preserved
+loop-group-preserved g c =
     let a = c.args in
-    (omega arith, rw c.wide-here.ensures (omega (arith, group_pass a.owner a.map.now l.from.0 a.group c.count_group.ensures l.left (omega arith) (omega arith))))
+    let l = c.loop-group in
+    let pass = pass_group a.owner a.map.now a.first.0 g.row.SIZE l.group-index l.left l.from.0 c.group-item.result c.as_chunks.ensures.front (omega arith) (omega arith)
+    c.loop-group-test.true c.group-item.is (c.from-here.ensures ∙ c.count_group.ensures) (omega arith) l.invariant.0 in
+    (pass.0, pass.1 ∙ l.invariant.1)

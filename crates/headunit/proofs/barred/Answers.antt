@@ -5,6 +5,6 @@ use Rattle.session.specs.declared.Row.{Row}
 use Rattle.session.specs.Rules.{barred_by}
 use Rattle.headunit.proofs.barred.Goals as goal
 
-pub returns : goal.returns
-returns c = c.barred_by.ensures ∙ ap (λ (x : Row). barred_by c.major.result c.mtu.result x c.args.header) c.row_at-row.ensures
+pub returns-clause-lowest : goal.returns-clause-lowest
+returns-clause-lowest c = c.barred_by.ensures.lowest ∙ ap (λ (x : Row). barred_by c.major.result c.mtu.result x c.args.header) c.row_at-row.ensures
     ∙ rw (c.major.ensures, c.mtu.ensures)

@@ -1,42 +1,61 @@
 -- `headunit::open` meets its contract.
 -- Assumes nothing.
 use Prim.Native.Nat.{ℕ}
-use mathlib.Core.Path.{◌∙◌, ap, sym}
-use Rattle.link.specs.Call.{Wish, wish_of, opening_by}
-use Rattle.link.proofs.Wishes.{wish_bounded}
+use mathlib.Core.Path.{◌≡◌, refl, ◌∙◌, ap, sym}
+use mathlib.Core.Bool.{true, false}
+use Rattle.std.specs.Prelude.{Option, Result, is_some}
+use Rattle.numbers.proofs.Laws.{known_bytes}
+use Rattle.payload.specs.declared.version.Version.{Version}
+use Rattle.payload.specs.declared.reply.Parameter.{Parameter}
+use Rattle.link.specs.Call.{wish_of, admits}
+use Rattle.rules.specs.Parts.{lowest_unused}
+use Rattle.rules.proofs.Ids.{lowest_ids}
 use Rattle.state.specs.Layout.{link_of}
 use Rattle.state.specs.Calls.{left_by}
-use Rattle.headunit.specs.Unit.{wish_from}
+use Rattle.state.specs.declared.RowNumber.{RowNumber}
+use Rattle.headunit.specs.Unit.{wished}
+use Rattle.headunit.proofs.Laws.{opening_rejected, opening_refused, opening_granted, wished_least}
 use Rattle.headunit.proofs.Parts.{state_left}
 use Rattle.headunit.proofs.open.Goals as goal
 
-pub open_old-requires : goal.open_old-requires
-open_old-requires c = c.requires
+-- what is wished, by the link's own version
+known : {x : Result (Option Version) Parameter} {n m : ℕ} (payload : _) → x ≡ wished (wish_of n payload) → n ≡ m → wished (wish_of m payload) ≡ x
+known payload e f = sym (e ∙ ap (λ (k : ℕ). wished (wish_of k payload)) f)
 
-pub open_new-requires : goal.open_new-requires
-open_new-requires c = let a = c.args in
+pub opened-requires : goal.opened-requires
+opened-requires c = let a = c.args in
+    let l = link_of a.link.now in
     let p = c.requires in
-    let is = sym c.wish_of.ensures ∙ ap wish_from c.in-New.is in
-    (p.0, (p.1.0, (p.1.1.0, ((wish_bounded c.major-major.result a.payload.now _ is).least, p.1.1.1))))
+    let seen = p.1.1 in
+    let is = known a.payload.now c.wish_of.ensures c.major-major.ensures ∙ c.in-Ok.is in (
+      (c.free_row.ensures l seen).first c.in-Some.i c.in-Some.is,
+      (
+        c.lowest_free-id.ensures ∙ ap (lowest_unused 255 1) seen.names ∙ lowest_ids 255 1 l.rows,
+        (p.0, (p.1.0, λ v e. wished_least l.version.major a.payload.now (wish_of l.version.major a.payload.now) c.in-Ok.wish refl is v e)),
+      ),
+    )
 
-pub not_readable-requires : goal.not_readable-requires
-not_readable-requires c = (c.requires.1.0, rw c.major-major.ensures c.requires.1.1.0)
-
-pub returns-in-Old : goal.returns-in-Old
-returns-in-Old c = let a = c.args in
+pub returns-in-Err : goal.returns-in-Err
+returns-in-Err c = let a = c.args in
     let s = a.link.now in
-    λ p. c.open_old.ensures p ∙ ap (λ (x : Wish). left_by s (opening_by (link_of s) p a.out.now a.consumed a.grant x))
-    (sym (ap wish_from c.in-Old.is) ∙ c.wish_of.ensures ∙ ap (λ (n : ℕ). wish_of n a.payload.now) c.major-major.ensures)
+    let l = link_of s in
+    let is = known a.payload.now c.wish_of.ensures c.major-major.ensures ∙ c.in-Err.is in
+    λ p. state_left s (c.told-link, known_bytes s c.fits-link) _ p _ (c.not_opened.ensures l p a.grant c.major-major.ensures
+    ∙ sym (opening_rejected l p a.out.now a.consumed a.grant (wish_of l.version.major a.payload.now) c.in-Err.rejected is))
 
-pub returns-in-New : goal.returns-in-New
-returns-in-New c = let a = c.args in
+pub returns-in-None : goal.returns-in-None
+returns-in-None c = let a = c.args in
     let s = a.link.now in
-    λ p. c.open_new.ensures p ∙ ap (λ (x : Wish). left_by s (opening_by (link_of s) p a.out.now a.consumed a.grant x))
-    (sym (ap wish_from c.in-New.is) ∙ c.wish_of.ensures ∙ ap (λ (n : ℕ). wish_of n a.payload.now) c.major-major.ensures)
+    let l = link_of s in
+    let is = known a.payload.now c.wish_of.ensures c.major-major.ensures ∙ c.in-Ok.is in
+    let full : admits l.rows a.grant ≡ false = sym (c.free_row.ensures l c.requires.1.1).admitted ∙ ap (λ (x : Option RowNumber). is_some x) c.in-None.is in
+    λ p. state_left s (c.told-link, known_bytes s c.fits-link) _ p _ (c.not_opened-in-None.ensures l p a.grant c.major-major.ensures
+    ∙ sym (opening_refused l p a.out.now a.consumed a.grant (wish_of l.version.major a.payload.now) c.in-Ok.wish is full))
 
-pub returns-in-Bad : goal.returns-in-Bad
-returns-in-Bad c = let a = c.args in
+pub returns-in-Some : goal.returns-in-Some
+returns-in-Some c = let a = c.args in
     let s = a.link.now in
-    λ p. state_left s c.requires.0 _ p _ (c.not_readable.ensures (link_of s) p a.grant c.major-major.ensures
-    ∙ ap (λ (x : Wish). (opening_by (link_of s) p a.out.now a.consumed a.grant x))
-    (sym (ap wish_from c.in-Bad.is) ∙ c.wish_of.ensures ∙ ap (λ (n : ℕ). wish_of n a.payload.now) c.major-major.ensures))
+    let l = link_of s in
+    let is = known a.payload.now c.wish_of.ensures c.major-major.ensures ∙ c.in-Ok.is in
+    let fits : admits l.rows a.grant ≡ true = sym (c.free_row.ensures l c.requires.1.1).admitted ∙ ap (λ (x : Option RowNumber). is_some x) c.in-Some.is in
+    λ p. c.opened.ensures p ∙ ap (left_by s) (sym (opening_granted l p a.out.now a.consumed a.grant (wish_of l.version.major a.payload.now) c.in-Ok.wish is fits))

@@ -6,4 +6,4 @@ use Rattle.headunit.proofs.owner.Goals as goal
 
 pub returns : goal.returns
 unfolding owner_of
-returns c = omega arith
+returns c = omega (arith, c.args.i.below)

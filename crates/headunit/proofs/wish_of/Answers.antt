@@ -1,6 +1,8 @@
 -- `headunit::wish_of` meets its contract.
 -- Assumes nothing.
-use mathlib.Core.Path.{◌∙◌, sym}
+use Prim.Native.Nat.{◌+◌, ◌-◌}
+use mathlib.Core.Path.{◌≡◌, sym, ◌∙◌}
+use native.Mathlib.Omega.{arith}
 use borrow.Author.Tests.{eq-eqb, ne_eqb}
 use Rattle.link.specs.Call.{wish_of}
 use Rattle.headunit.proofs.Laws.{inside}
@@ -10,15 +12,23 @@ pub returns-then-major-ne5 : goal.returns-then-major-ne5
 unfolding wish_of
 returns-then-major-ne5 c = rw (ne_eqb _ _ c.if-major-ne5.true)
 
-pub wished_tag-requires : goal.wished_tag-requires
-wished_tag-requires c =
-    let a = c.args in
-    inside a.payload.now _ (sym c.read.ensures ∙ c.in-Accepted.is)
-
-pub returns-in-Accepted : goal.returns-in-Accepted
+pub returns-in_default : goal.returns-in_default
 unfolding wish_of
-returns-in-Accepted c = c.wished_tag.ensures ∙ rw (eq-eqb _ _ c.if-major-ne5.false, ← c.read.ensures, c.in-Accepted.is)
+returns-in_default c = rw (eq-eqb _ _ c.if-major-ne5.false, ← c.read.ensures, c.in_default.is)
 
-pub returns-in-Refused : goal.returns-in-Refused
+pub returns-in_default-version : goal.returns-in_default-version
 unfolding wish_of
-returns-in-Refused c = rw (eq-eqb _ _ c.if-major-ne5.false, ← c.read.ensures, c.in-Refused.is)
+returns-in_default-version c = rw (eq-eqb _ _ c.if-major-ne5.false, ← c.read.ensures, c.in-Ok.is, c.in_default-version.is)
+
+pub overflow_add-end : goal.overflow_add-end
+overflow_add-end c = omega (arith, inside c.args.payload.now c.in-Ok.tags c.in-Some.text (sym c.read.ensures ∙ c.in-Ok.is) c.in-Some.is)
+
+pub slice_bounds-wished_text-end : goal.slice_bounds-wished_text-end
+slice_bounds-wished_text-end c = omega (arith, inside c.args.payload.now c.in-Ok.tags c.in-Some.text (sym c.read.ensures ∙ c.in-Ok.is) c.in-Some.is)
+
+pub returns : goal.returns
+unfolding wish_of
+returns c =
+    let text = c.in-Some.text in
+    let z : text.at + text.length - text.at ≡ text.length = omega arith in
+    c.wished_text.ensures ∙ rw (eq-eqb _ _ c.if-major-ne5.false, ← c.read.ensures, c.in-Ok.is, c.in-Some.is, z)

@@ -11,22 +11,14 @@ use Rattle.headunit.proofs.Laws.{decision_roomy}
 use Rattle.headunit.proofs.Parts.{within_is}
 use Rattle.headunit.proofs.within.Goals as goal
 
-pub decide-act-requires : goal.decide-act-requires
-decide-act-requires c = let p = c.requires in (p.1.0.0, (p.0.0, (p.1.1.1.0, p.1.1.1.1)))
-
 pub tell-answer-requires : goal.tell-answer-requires
 tell-answer-requires c = let a = c.args in
     let l = link_of a.link.now in
     let p = c.requires in
-    let serves = p.1.0 in
-    let total = (message_at (get_or l.rows a.i no_row) (place_of a.header.service.0)).total in
-    let roomy = subst (Roomy (length a.out.now) (length a.payload.now) total) (sym c.decide-act.ensures) (decision_roomy l a.i a.header a.payload.now (length a.out.now) p.1.1.0) in
-    (serves.0, (p.0.0, ((serves.1.0, (serves.1.1.0, (serves.1.1.1.0, serves.1.1.1.1))), roomy)))
-
-pub note-requires : goal.note-requires
-note-requires c = (c.requires.1.0.0, c.requires.0)
+    let total = (message_at (get_or l.rows a.i.number no_row) (place_of a.header.service.0)).total in
+    (p.0, subst (Roomy (length a.out.now) (length a.payload.now) total) (sym c.decide-act.ensures) (decision_roomy l a.i.number a.header a.payload.now (length a.out.now) p.1.0))
 
 pub returns : goal.returns
 returns c = let a = c.args in
-    within_is (link_of a.link.now) a.i a.header a.consumed a.grant a.payload.now a.pool.now a.out.now (omega (arith, c.requires.1.0.0)) a.link.now _
+    within_is (link_of a.link.now) a.i.number a.header a.consumed a.grant a.payload.now a.pool.now a.out.now (omega (arith, a.i.below)) a.link.now _
     c.decide-act.result c.tell-answer.result _ _ c.decide-act.ensures c.tell-answer.ensures c.note.ensures

@@ -1,17 +1,28 @@
--- `lines::decimal_to_number` meets its contract. The tests stand in the order of the definition, so each answer is one rewrite by them.
+-- `lines::decimal_to_number` meets its contract. The tests are those of the definition, so each answer is a rewrite by them.
 -- Assumes nothing.
-use borrow.Author.Tests.{eq-eqb, ne_eqb}
-use Rattle.lines.specs.Decimal.{number_of}
+use Prim.Native.Nat.{ℕ, ◌^◌}
+use mathlib.Core.Path.{◌≡◌, ◌∙◌}
+use mathlib.Core.List.{List}
+use Rattle.std.specs.Option.{ok_or}
+use lib.Dec.{ltb}
+use Rattle.numbers.proofs.Choices.{split}
+use Rattle.lines.specs.Decimal.{is_decimal, short, value_from, value_of, number_of}
+use Rattle.lines.specs.declared.NumberFault.TheVariants.{TooLarge}
 use Rattle.lines.proofs.decimal_to_number.Goals as goal
 
-pub returns-then-text-eq0 : goal.returns-then-text-eq0
-unfolding number_of
-returns-then-text-eq0 c = rw (eq-eqb _ _ c.if-text-eq0.true)
+-- a value that has no room is too large
+value_short : (text : List ℕ) → ok_or (short (value_from 0 text)) TooLarge ≡ value_of text
+unfolding value_of
+value_short text = split (ltb (value_from 0 text) (2 ^ 64)) (λ t. rw t) (λ t. rw t)
 
-pub returns-then-is_decimal : goal.returns-then-is_decimal
+pub returns-then-is_empty-every : goal.returns-then-is_empty-every
 unfolding number_of
-returns-then-is_decimal c = rw (ne_eqb _ _ c.if-text-eq0.false, ← c.is_decimal.ensures, c.if-is_decimal.true, c.value.ensures)
+returns-then-is_empty-every c =
+    let tested = rw (c.is_empty.ensures, c.every.ensures is_decimal (λ b r l e. e)) at c.if-is_empty-every.true in
+    rw tested
 
 pub returns : goal.returns
 unfolding number_of
-returns c = rw (ne_eqb _ _ c.if-text-eq0.false, ← c.is_decimal.ensures, c.if-is_decimal.false)
+returns c =
+    let tested = rw (c.is_empty.ensures, c.every.ensures is_decimal (λ b r l e. e)) at c.if-is_empty-every.false in
+    rw tested (c.ok_or.ensures.value ∙ rw c.value.ensures (value_short c.args.text.now))

@@ -1,25 +1,27 @@
--- `lines::find` meets its contract. The loop's invariant: the bytes passed and the byte's place from there on are its place in the whole part.
+-- `lines::find` meets its contract: the part that is looked through is the definition's, and empty where it would end before it starts.
 -- Assumes nothing.
-use mathlib.Core.Path.{refl}
+use Prim.Native.Nat.{◌+◌}
+use mathlib.Core.Path.{ap, ◌∙◌}
 use native.Mathlib.Omega.{arith}
-use Rattle.lines.proofs.Places.{byte_here, byte_later, byte_over}
+use Rattle.lines.proofs.Places.{part_place, part_none, part_within}
 use Rattle.lines.proofs.find.Goals as goal
 
-pub loop-i-init : goal.loop-i-init
-loop-i-init c = (omega arith, λ h. h, refl)
-
-pub returns-then-bytes-i-clause-value : goal.returns-then-bytes-i-clause-value
-returns-then-bytes-i-clause-value c =
+pub returns-then-end-from-clause-value : goal.returns-then-end-from-clause-value
+returns-then-end-from-clause-value c =
     let a = c.args in
-    omega (arith, byte_here a.byte a.bytes.now c.loop-i.i a.to (omega arith) (omega arith) (omega arith))
+    omega (arith, part_none a.byte a.bytes.now a.from a.to c.min-end.result c.min-end.ensures c.if-end-from.true)
 
-pub loop-i-preserved : goal.loop-i-preserved
-loop-i-preserved c =
+pub overflow_add-result : goal.overflow_add-result
+overflow_add-result c =
     let a = c.args in
-    let l = c.loop-i in
-    (omega arith, λ h. omega arith, omega (arith, byte_later a.byte a.bytes.now l.i a.to (omega arith) (omega arith) (λ e. omega arith)))
+    omega (arith, part_within a.byte a.bytes.now a.from a.to c.min-end.result c.min-end.ensures c.if-end-from.false)
 
 pub returns-clause-value : goal.returns-clause-value
 returns-clause-value c =
     let a = c.args in
-    omega (arith, byte_over a.byte a.bytes.now c.loop-i.i a.to (omega arith))
+    ap (λ n. a.from + n) (c.index_of.ensures ∙ part_place a.byte a.bytes.now a.from a.to c.min-end.result c.min-end.ensures)
+
+pub returns-clause-upper_bound : goal.returns-clause-upper_bound
+returns-clause-upper_bound c h =
+    let a = c.args in
+    omega (arith, part_within a.byte a.bytes.now a.from a.to c.min-end.result c.min-end.ensures c.if-end-from.false)

@@ -1,14 +1,10 @@
 -- `lines::join_pairs` meets its contract. The loop's invariant: the first i pairs of the text lie over the front of the array.
 -- Assumes nothing.
-use Prim.Native.Nat.{◌≤◌, ◌-◌}
 use mathlib.Core.Path.{◌≡◌}
 use mathlib.Core.List.{◌++◌}
-use lib.ListN.{length, take, drop}
+use lib.ListN.{take, drop}
 use Rattle.lines.specs.Hex.{pairs_of}
 use Rattle.lines.proofs.join_pairs.Given as goal
 
 abbrev pub invariant-loop-i : goal.invariant-loop-i
-invariant-loop-i l = (l.i ≤ l.count) × (length l.pairs ≡ length l.initial.pairs) × (l.pairs ≡ take l.i (pairs_of l.text) ++ drop l.i l.initial.pairs)
-
-abbrev pub decreases-loop-i : goal.decreases-loop-i
-decreases-loop-i l = l.count - l.i
+invariant-loop-i l = l.pairs ≡ take l.i (pairs_of l.text) ++ drop l.i l.initial.pairs

@@ -1,13 +1,14 @@
 -- `lines::line_end` meets its contract: both searches by groups keep the line's end, and the one by characters finds it.
 -- Assumes nothing.
+use mathlib.Core.Path.{◌∙◌}
 use native.Mathlib.Omega.{arith}
-use Rattle.lines.proofs.LineEnds.{last_within, line_found}
+use Rattle.lines.proofs.LineEnds.{line_is, last_within, line_found}
 use Rattle.lines.proofs.line_end.Goals as goal
 
 pub overflow_add-result : goal.overflow_add-result
 overflow_add-result c =
     let t = c.args.text.now in
-    omega (arith, last_within t c.pass_groups-near.result c.line_length.result (omega arith) c.line_length.ensures)
+    omega (arith, last_within _ t c.pass_groups-near.result c.index_of.result (omega arith) c.index_of.ensures)
 
 pub returns : goal.returns
 returns c =
@@ -15,9 +16,10 @@ returns c =
     let t = a.text.now in
     let far = c.pass_groups-far in
     let near = c.pass_groups-near in
-    let last = c.line_length in
-    let most = last_within t near.result last.result (omega arith) last.ensures in
+    let last = c.index_of in
+    let found = last.ensures ∙ line_is _ in
+    let most = last_within _ t near.result last.result (omega arith) last.ensures in
     record {
-      value = line_found t a.from c.least-start.result far.result near.result last.result c.least-start.ensures far.ensures.1.1 near.ensures.1.1 last.ensures;
+      value = line_found t a.from c.min-start.result far.result near.result last.result c.min-start.ensures far.ensures.1.1 near.ensures.1.1 found;
       lower_bound = (omega arith, omega arith);
     }

@@ -3,12 +3,12 @@
 use Prim.Native.Nat.{◌≤◌, ◌-◌}
 use mathlib.Core.Path.{◌≡◌}
 use mathlib.Core.List.{◌++◌}
-use lib.ListN.{length, take, drop}
+use lib.ListN.{take, drop}
 use Rattle.lines.specs.Hex.{bytes_of}
 use Rattle.lines.proofs.put_bytes.Given as goal
 
 abbrev pub invariant-loop-done : goal.invariant-loop-done
-invariant-loop-done l = (l.done ≤ l.count) × (length l.out ≡ length l.initial.out) × (l.out ≡ take l.done (bytes_of l.text) ++ drop l.done l.initial.out)
+invariant-loop-done l = (l.done ≤ l.count) × (l.out ≡ take l.done (bytes_of l.text) ++ drop l.done l.initial.out)
 
 abbrev pub decreases-loop-done : goal.decreases-loop-done
 decreases-loop-done l = l.count - l.done

@@ -1,25 +1,13 @@
 -- `lines::put_digits` meets its contract. The loop's invariant: the first 2 i characters lie over the front of the buffer.
 -- Assumes nothing.
 use Prim.Native.Nat.{◌+◌, ◌*◌, ◌/◌, ◌%◌}
-use mathlib.Core.Path.{◌≡◌, refl, ap, ◌∙◌, sym}
+use mathlib.Core.Path.{◌≡◌, ap, ◌∙◌, sym}
 use native.Mathlib.Omega.{arith}
-use lib.ListN.{get_or, set, length-set}
+use lib.ListN.{get_or, set}
 use Rattle.lines.specs.Hex.{hex_of, letter_of}
 use Rattle.lines.proofs.Turns.{front_two, front_end}
 use Rattle.lines.proofs.Characters.{length_hex, letters_at}
 use Rattle.lines.proofs.put_digits.Goals as goal
-
-pub loop-i-init : goal.loop-i-init
-loop-i-init c = (omega arith, refl, refl)
-
-pub letter-requires : goal.letter-requires
-letter-requires c = omega (arith, c.type_inv.bytes c.loop-i.i)
-
-pub letter-requires-in-loop-i : goal.letter-requires-in-loop-i
-letter-requires-in-loop-i c = omega (arith, c.type_inv.bytes c.loop-i.i)
-
-pub bounds-out-i-in-loop-i : goal.bounds-out-i-in-loop-i
-bounds-out-i-in-loop-i c = simp length-set (omega arith)
 
 pub loop-i-preserved : goal.loop-i-preserved
 loop-i-preserved c =
@@ -33,13 +21,10 @@ loop-i-preserved c =
     let lower : second.result ≡ letter_of (get_or b l.i 0 % 16) = second.ensures in
     let h = letters_at b l.i (omega arith) in
     let f = front_two (hex_of b) o (2 * l.i) first.result second.result (omega (arith, length_hex b)) (omega arith) (h.0 ∙ sym upper) (h.1 ∙ sym lower) in
-    (omega arith, simp length-set (omega arith), rw two (ap (λ d. set (set d (2 * l.i) first.result) (2 * l.i + 1) second.result) l.invariant.2 ∙ f))
-
-pub shape_of-out : goal.shape_of-out
-shape_of-out c = c.loop-i.invariant.1
+    rw two (ap (λ d. set (set d (2 * l.i) first.result) (2 * l.i + 1) second.result) l.invariant ∙ f)
 
 pub returns : goal.returns
 returns c =
     let b = c.args.bytes.now in
     let l = c.loop-i in
-    l.invariant.2 ∙ front_end (hex_of b) c.args.out.now (2 * l.i) (omega (arith, length_hex b))
+    l.invariant ∙ front_end (hex_of b) c.args.out.now (2 * l.i) (omega (arith, length_hex b))

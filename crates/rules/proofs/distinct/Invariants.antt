@@ -1,6 +1,4 @@
--- `rules::distinct` meets its contract: the ids passed are not found again, and the rest of the test is the whole one.
--- Assumes nothing.
-use Prim.Native.Nat.{◌-◌, ◌≤◌}
+-- What is found so far, and the rest of the test, are the whole one. Assumes nothing.
 use mathlib.Core.Path.{◌≡◌}
 use mathlib.Core.Bool.{◌&&◌}
 use lib.ListN.{drop}
@@ -8,7 +6,4 @@ use Rattle.rules.specs.Parts.{distinct_in}
 use Rattle.rules.proofs.distinct.Given as goal
 
 abbrev pub invariant-loop-i : goal.invariant-loop-i
-invariant-loop-i l = (l.i ≤ 8) × (l.apart && distinct_in (drop l.i l.ids) ≡ distinct_in l.ids)
-
-abbrev pub decreases-loop-i : goal.decreases-loop-i
-decreases-loop-i l = 8 - l.i
+invariant-loop-i l = l.apart && distinct_in (drop l.i l.fn.ids) ≡ distinct_in l.fn.ids

@@ -1,26 +1,31 @@
--- `rules::lowest_free` meets its contract.
--- Assumes nothing.
-use mathlib.Core.Path.{◌≡◌, refl, sym, ◌∙◌}
+-- `rules::lowest_free` meets its contract. Assumes nothing.
+use Prim.Native.Nat.{◌+◌}
+use mathlib.Core.Path.{◌≡◌, sym, ◌∙◌}
 use native.Mathlib.Omega.{arith}
 use lib.ListN.{length}
-use Rattle.rules.proofs.Turns.{lowest_found, lowest_pass, lowest_end}
+use borrow.Author.Rules.{rules}
+use Rattle.rules.proofs.Turns.{index_says, lowest_found, lowest_pass, lowest_end}
 use Rattle.rules.proofs.lowest_free.Goals as goal
 
-pub loop-number-init : goal.loop-number-init
-loop-number-init c = (omega arith, omega arith, refl)
-
-pub returns-then-index_of-eq8 : goal.returns-then-index_of-eq8
-returns-then-index_of-eq8 c = let l = c.loop-number in
+pub returns-then-is_none : goal.returns-then-is_none
+returns-then-is_none c =
     let ids = c.args.ids in
-    let size : length ids ≡ 8 = c.well_formed.0.1.0.1 in
-    sym (lowest_found l.number ids (omega arith) (omega (arith, c.index_of.ensures.0))) ∙ l.invariant.2
+    let size : length ids ≡ 8 = search rules in
+    sym (lowest_found c.loop-number.number ids (omega arith) ((index_says _ c.index_of.ensures).0 c.if-is_none.ensures ∙ sym size)) ∙ c.loop-number.invariant
 
 pub loop-number-preserved : goal.loop-number-preserved
-loop-number-preserved c = let l = c.loop-number in
+loop-number-preserved c =
     let ids = c.args.ids in
-    let size : length ids ≡ 8 = c.well_formed.0.1.0.1 in
-    (omega arith, omega arith, sym (lowest_pass l.number ids (omega arith) (λ e. c.if-index_of-eq8.false (c.index_of.ensures.0 ∙ e ∙ size))) ∙ l.invariant.2)
+    let size : length ids ≡ 8 = search rules in
+    sym (lowest_pass c.loop-number.number ids (omega arith) (λ e. (index_says _ c.index_of.ensures).1 c.if-is_none.ensures (e ∙ size))) ∙ c.loop-number.invariant
+
+pub returns-else-is_none : goal.returns-else-is_none
+returns-else-is_none c =
+    let n = c.loop-number.number in
+    let ids = c.args.ids in
+    let size : length ids ≡ 8 = search rules in
+    let passed = lowest_pass n ids (omega arith) (λ e. (index_says _ c.index_of.ensures).1 c.if-is_none.ensures (e ∙ size)) in
+    sym (lowest_end (n + 1) ids (omega arith)) ∙ sym passed ∙ c.loop-number.invariant
 
 pub returns : goal.returns
-returns c = let l = c.loop-number in
-    sym (lowest_end l.number c.args.ids (omega arith)) ∙ l.invariant.2
+returns c = sym (lowest_end c.loop-number.number c.args.ids (omega arith)) ∙ c.loop-number.invariant

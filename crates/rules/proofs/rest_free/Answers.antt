@@ -10,7 +10,7 @@ use Rattle.rules.proofs.rest_free.Goals as goal
 
 pub returns-then-held-eq0 : goal.returns-then-held-eq0
 returns-then-held-eq0 c =
-    rest_all c.args.map.now c.args.held c.all_free.result c.requires.0 c.if-held-eq0.true c.all_free.ensures
+    rest_all c.args.map.now c.args.held c.all_free.result c.told-map c.if-held-eq0.true c.all_free.ensures
 
 pub overflow_add-result : goal.overflow_add-result
 overflow_add-result c = omega (arith, c.free_count.ensures, held_most 0 c.args.map.now)

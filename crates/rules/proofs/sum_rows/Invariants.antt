@@ -1,6 +1,6 @@
 -- `rules::sum_rows` meets its contract.
 -- Assumes nothing.
-use Prim.Native.Nat.{ℕ, ◌+◌, ◌-◌, ◌*◌, ◌≤◌}
+use Prim.Native.Nat.{ℕ, ◌+◌, ◌*◌, ◌≤◌}
 use mathlib.Core.Path.{◌≡◌}
 use mathlib.Core.Bool.{Bool, ◌&&◌}
 use lib.ListN.{drop}
@@ -19,8 +19,5 @@ Passed l fit held shared i =
     × ((shared ≤ i * 83886080)
     × (shared + share_sum (drop i l.rows) ≡ share_sum l.rows))))
 
-abbrev pub invariant-loop-i : goal.invariant-loop-i
-invariant-loop-i l = (l.i ≤ 8) × Passed (link_of l.link) l.fit l.held l.shared l.i
-
-abbrev pub decreases-loop-i : goal.decreases-loop-i
-decreases-loop-i l = 8 - l.i
+abbrev pub invariant-loop-number : goal.invariant-loop-number
+invariant-loop-number l = Passed (link_of l.link) l.fit l.held l.shared l.number

@@ -10,4 +10,4 @@ use Rattle.state.proofs.claim.Goals as goal
 pub returns : goal.returns
 returns c =
     let s = c.args.state.now in
-    lent_over s 544 256 _ _ (claim_length c.args.mine.0 c.args.need (part s 544 256) ∙ part_length s 544 256 (omega (arith, c.requires))) (omega (arith, c.requires)) c.claim.ensures.map_after
+    lent_over s 544 256 _ _ (claim_length c.args.mine.0 c.args.need (part s 544 256) ∙ part_length s 544 256 (omega (arith, c.told-state))) (omega (arith, c.told-state)) c.claim.ensures.map_after

@@ -1,10 +1,14 @@
--- `state::ids` meets its contract.
--- Assumes nothing.
-use Rattle.state.proofs.Rows.{ids_are}
+-- `state::ids` meets its contract. Assumes nothing.
+use mathlib.Core.Path.{◌∙◌}
+use borrow.Author.Rules.{rules}
+use Rattle.session.specs.Rows.{no_session_id}
+use Rattle.state.specs.Fields.{number_at}
+use Rattle.state.specs.Layout.{row_place}
+use Rattle.state.proofs.Made.{made}
+use Rattle.state.proofs.Rows.{id_as, ids_are}
 use Rattle.state.proofs.ids.Goals as goal
 
 pub returns : goal.returns
 returns c =
-    ids_are c.args.state.now c.requires c.byte.result c.byte-2.result c.byte-3.result c.byte-4.result c.byte-5.result c.byte-6.result
-    c.byte-7.result c.byte-8.result c.byte.ensures c.byte-2.ensures c.byte-3.ensures c.byte-4.ensures c.byte-5.ensures c.byte-6.ensures
-    c.byte-7.ensures c.byte-8.ensures
+    let s = c.args.state.now in
+    made _ (λ i. id_as (number_at s (row_place i) 1)) _ (λ i r q k. search rules) _ no_session_id 8 c.from_fn.ensures.items ∙ ids_are s

@@ -5,4 +5,4 @@ use Rattle.state.proofs.Rows.{quiet_is}
 use Rattle.state.proofs.is_quiet.Goals as goal
 
 pub returns : goal.returns
-returns c = quiet_is c.args.row.now c.number.result c.byte.result (omega (arith, c.requires)) c.number.ensures c.byte.ensures
+returns c = quiet_is c.args.row.now c.number.result c.number-2.result (omega (arith, c.told-row)) c.number.ensures c.number-2.ensures

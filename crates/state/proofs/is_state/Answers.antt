@@ -17,4 +17,4 @@ pub returns : goal.returns
 unfolding is_state
 returns c =
     let s = c.args.state.now in
-    (rw (eq-eqb (length s) 2688 c.if-state-ne-LENGTH.false, c.byte.ensures), known_bytes s (λ i. omega (arith, c.type_inv.state i)))
+    (rw (eq-eqb (length s) 2688 c.if-state-ne-LENGTH.false, c.number.ensures), known_bytes s (λ i. omega (arith, c.type_inv.state i)))

@@ -10,4 +10,4 @@ use Rattle.state.proofs.message_at.Goals as goal
 pub returns : goal.returns
 returns c =
     let a = c.args in
-    c.message.ensures ∙ ap (λ (t : List ℕ). message_of t a.place) c.row_bytes.ensures.0 ∙ message_in_lem _ a.place c.requires.1.0
+    c.message.ensures ∙ ap (λ (t : List ℕ). message_of t a.place) c.row_bytes.ensures ∙ message_in_lem _ a.place c.requires

@@ -1,5 +1,9 @@
--- `state::messages` meets its contract: each place's message in the order of the places. Assumes nothing.
+-- `state::messages` meets its contract. Assumes nothing.
+use borrow.Author.Rules.{rules}
+use Rattle.session.specs.Rows.{no_reassembly}
+use Rattle.state.specs.Layout.{message_of}
+use Rattle.state.proofs.Made.{made}
 use Rattle.state.proofs.messages.Goals as goal
 
 pub returns : goal.returns
-returns c = rw (c.message-first.ensures, c.message-second.ensures, c.message-third.ensures, c.message-fourth.ensures, c.message-fifth.ensures)
+returns c = made _ (λ place. message_of c.args.row.now place) _ (λ i r q k. search rules) _ no_reassembly 5 c.from_fn.ensures.items

@@ -7,5 +7,7 @@ use Rattle.state.proofs.put_row.Goals as goal
 
 pub returns : goal.returns
 returns c = let a = c.args in
-    let bytes = row_put a.state.now a.i a.row c.requires.1 c.requires.0 c.write_row.new.row c.write_row.ensures.0 in
-    (bytes, ap link_of bytes ∙ link_put a.state.now a.i a.row c.requires.1 c.requires.0 (lent_sound a.state.now a.i a.row c.requires.1 c.requires.0 c.write_row.ensures.1))
+    let s = a.state.now in
+    let i = a.i.number in
+    let bytes = row_put s i a.row c.told-state a.i.below c.write_row.new.bytes c.write_row.ensures.0 in
+    (bytes, ap link_of bytes ∙ link_put s i a.row c.told-state a.i.below (lent_sound s i a.row c.told-state a.i.below c.write_row.ensures.1))

@@ -10,4 +10,4 @@ use Rattle.state.proofs.release.Goals as goal
 pub returns : goal.returns
 returns c =
     let s = c.args.state.now in
-    lent_over s 544 256 _ _ (release_length c.args.low.0 c.args.high.0 (part s 544 256) ∙ part_length s 544 256 (omega (arith, c.requires))) (omega (arith, c.requires)) c.release.ensures
+    lent_over s 544 256 _ _ (release_length c.args.low.0 c.args.high.0 (part s 544 256) ∙ part_length s 544 256 (omega (arith, c.told-state))) (omega (arith, c.told-state)) c.release.ensures

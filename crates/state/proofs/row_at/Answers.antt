@@ -5,4 +5,4 @@ use Rattle.state.specs.Layout.{row_of}
 use Rattle.state.proofs.row_at.Goals as goal
 
 pub returns : goal.returns
-returns c = c.read_row.ensures ∙ ap row_of c.row_bytes.ensures.0
+returns c = c.read_row.ensures ∙ ap row_of c.row_bytes.ensures

@@ -6,10 +6,9 @@ use mathlib.Core.List.{List}
 use native.Mathlib.Omega.{arith}
 use lib.ListN.{take}
 use Rattle.words.specs.declared.Command.{Command}
-use Rattle.words.specs.declared.Form.{Form}
-use Rattle.words.specs.declared.Numbers.{Numbers}
-use Rattle.words.specs.Words.{form_of}
-use Rattle.words.specs.Lines.{leaving, spoken_by, name_end, spoken, with_form, command_of}
+use Rattle.words.specs.Words.{NumbersRead, numbers_from, no_numbers, form_of}
+use Rattle.words.specs.Lines.{LastLeft, last_of, leaving, name_end, with_form, command_of}
+use Rattle.words.proofs.Turns.{form_limits, told}
 use Rattle.words.proofs.command_of.Goals as goal
 
 pub returns-then-is_silent : goal.returns-then-is_silent
@@ -18,16 +17,18 @@ returns-then-is_silent c = rw (sym c.is_silent.ensures ∙ c.if-is_silent.true) 
 
 pub returns : goal.returns
 unfolding command_of
-returns c = let after : List ℕ = c.last_word-last.new.content in
+returns c =
     let line : List ℕ = c.args.line.now in
     let content : List ℕ = c.args.content.now in
     let space : ℕ = c.find-space.result in
-    let form : Form = c.form_of-form.result in
-    let n : Numbers = c.numbers_at-numbers.result in
+    let name : List ℕ = c.front.result.now in
+    let limits : List ℕ = c.limits-limits.result.now in
+    let last : LastLeft = last_of line c.named-kind.result c.words_end.result content in
+    let numbers : NumbersRead = numbers_from line limits 0 (no_numbers space) in
+    let whole = c.whole.ensures numbers last.last c.numbers_at-numbers.ensures c.last_word-last.ensures.said in
     let z : space ≡ name_end line = omega (arith, c.find-space.ensures.value) in
     rw (sym c.is_silent.ensures ∙ c.if-is_silent.false)
-    (ap (λ (k : Command). leaving k after) c.whole.ensures
-    ∙ ap (spoken_by form n) c.last_word-last.ensures
-    ∙ ap (λ (m : Numbers). spoken line space form m content) c.numbers_at-numbers.ensures
-    ∙ ap (λ (f : Form). with_form line space f content) (c.form_of-form.ensures ∙ ap form_of c.front.ensures)
+    (told line content space (form_of name) c.named-kind.result limits c.last_word-last.new.content c.words_end.result c.whole.result (form_limits name)
+    c.named-kind.ensures c.limits-limits.ensures.limits c.words_end.ensures whole c.last_word-last.ensures.content_after
+    ∙ ap (λ (n : List ℕ). with_form line space (form_of n) content) c.front.ensures
     ∙ ap (λ (s : ℕ). with_form line s (form_of (take s line)) content) z)

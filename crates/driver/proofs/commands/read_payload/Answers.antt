@@ -3,5 +3,5 @@
 use Rattle.text.proofs.Texts.{started}
 use Rattle.driver.proofs.commands.read_payload.Goals as goal
 
-pub returns-in-Accepted : goal.returns-in-Accepted
-returns-in-Accepted c = rw (← c.read-payload.ensures, c.in-Accepted.is) (started c.version_text.ensures c.with_tags.ensures)
+pub returns-in-Ok : goal.returns-in-Ok
+returns-in-Ok c = rw (← c.read.ensures, c.in-Ok.is) (started c.version_text.ensures c.with_tags.ensures)

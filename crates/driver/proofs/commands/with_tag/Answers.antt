@@ -3,8 +3,8 @@
 use Rattle.text.proofs.Texts.{then}
 use Rattle.driver.proofs.commands.with_tag.Goals as goal
 
-pub returns-then-found : goal.returns-then-found
-returns-then-found c = rw c.if-found.true (then c.put-named.ensures c.decimal.ensures)
+pub returns-in-Some : goal.returns-in-Some
+returns-in-Some c = rw c.in-Some.is (then c.put-named.ensures c.decimal.ensures)
 
-pub returns : goal.returns
-returns c = rw c.if-found.false (then c.put-named.ensures c.byte.ensures)
+pub returns-in-None : goal.returns-in-None
+returns-in-None c = rw c.in-None.is (then c.put-named.ensures c.byte.ensures)

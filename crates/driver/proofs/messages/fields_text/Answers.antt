@@ -7,4 +7,4 @@ use Rattle.driver.proofs.messages.fields_text.Goals as goal
 pub returns : goal.returns
 returns c =
     let letter = started c.empty.ensures c.byte.ensures in
-    started letter (then c.number8-text.ensures (then c.number32.ensures (then c.number32-2.ensures (alone c.number32-3.ensures))))
+    started letter (then c.number-text.ensures (then c.number.ensures (then c.number-2.ensures (alone c.number-3.ensures))))

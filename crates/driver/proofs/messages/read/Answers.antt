@@ -1,23 +1,24 @@
 -- `driver::messages::read` meets its contract, by the reader's three answers.
 -- Assumes nothing.
-use Rattle.std.proofs.Common.{[], sym, ap, ◌∙◌}
-use Rattle.driver.specs.Answers.{rpc_by}
+use Rattle.std.proofs.Common.{ℕ, [], Ok, sym, ap, ◌∙◌}
+use Rattle.driver.specs.Spelling.{refused_text}
+use Rattle.driver.specs.Answers.{plain_line, rpc_by}
 use Rattle.driver.proofs.Answers.{message_line, bare_line, rpc_read}
 use Rattle.driver.proofs.Spelling.{held, line_held}
 use Rattle.driver.proofs.messages.read.Goals as goal
 
-pub returns-in-Message : goal.returns-in-Message
-returns-in-Message c =
-    rpc_read c.args.command c.args.input.now c.form_of.ensures c.byte.ensures c.read-reading.ensures
-    (message_line c.args.input.now c.lay_parts.ensures c.in-Message.is c.message_text.ensures)
+pub returns-in-Ok-Message : goal.returns-in-Ok-Message
+returns-in-Ok-Message c =
+    rpc_read c.args.command c.args.input.now c.form_of.ensures c.byte.ensures c.read.ensures
+    (message_line c.args.input.now c.lay_parts.ensures (c.in-Ok-Message.is ∙ ap Ok c.in-Ok-Message.field-0-is) c.message_text.ensures)
 
-pub returns-in-Bare : goal.returns-in-Bare
-returns-in-Bare c =
-    rpc_read c.args.command c.args.input.now c.form_of.ensures c.byte.ensures c.read-reading.ensures
-    (bare_line c.args.input.now c.lay_parts-in-Bare.ensures c.in-Bare.is c.bare_text.ensures)
+pub returns-in-Ok-Bare : goal.returns-in-Ok-Bare
+returns-in-Ok-Bare c =
+    rpc_read c.args.command c.args.input.now c.form_of.ensures c.byte.ensures c.read.ensures
+    (bare_line c.args.input.now c.lay_parts-in-Ok-Bare.ensures (c.in-Ok-Bare.is ∙ ap Ok c.in-Ok-Bare.field-0-is) c.bare_text.ensures)
 
-pub returns-in-Refused : goal.returns-in-Refused
-returns-in-Refused c =
+pub returns-in-Err : goal.returns-in-Err
+returns-in-Err c =
     let s = c.args.input.now in
-    rpc_read c.args.command s c.form_of.ensures c.byte.ensures c.read-reading.ensures
-    (c.lay_plain.ensures ∙ line_held (held c.refused.ensures) [] ∙ ap (rpc_by s) (sym c.in-Refused.is))
+    rpc_read c.args.command s c.form_of.ensures c.byte.ensures c.read.ensures
+    (c.lay_plain.ensures ∙ line_held (held c.refused.ensures) [] ∙ ap (λ (n : ℕ). plain_line (refused_text n)) c.number.ensures ∙ ap (rpc_by s) (sym c.in-Err.is))

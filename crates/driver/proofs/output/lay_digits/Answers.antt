@@ -11,18 +11,18 @@ overflow_add-result c =
     let s = c.args.bytes.now in
     let o = c.args.line.now in
     let at = c.args.at in
-    omega (arith, c.requires, length_hex s, rest_count (hex_of s) o at (omega (arith, length_hex s, c.requires)) c.bytes_to_hex.ensures c.in-Chars.is)
+    omega (arith, c.requires, length_hex s, rest_count (hex_of s) o at (omega (arith, length_hex s, c.requires)) c.bytes_to_hex.ensures c.in-Some.is)
 
-pub returns-in-Chars : goal.returns-in-Chars
-returns-in-Chars c =
+pub returns-in-Some : goal.returns-in-Some
+returns-in-Some c =
     let s = c.args.bytes.now in
     let o = c.args.line.now in
     let at = c.args.at in
-    rest_put (hex_of s) o at (omega (arith, length_hex s, c.requires)) c.bytes_to_hex.ensures c.in-Chars.is refl
+    rest_put (hex_of s) o at (omega (arith, length_hex s, c.requires)) c.bytes_to_hex.ensures c.in-Some.is refl
 
-pub returns-in-Full : goal.returns-in-Full
-returns-in-Full c =
+pub returns-in-None : goal.returns-in-None
+returns-in-None c =
     let s = c.args.bytes.now in
     let o = c.args.line.now in
     let at = c.args.at in
-    absurd (rest_full (hex_of s) o at (omega (arith, length_hex s, c.requires)) c.bytes_to_hex.ensures c.in-Full.is)
+    absurd (rest_full (hex_of s) o at (omega (arith, length_hex s, c.requires)) c.bytes_to_hex.ensures c.in-None.is)

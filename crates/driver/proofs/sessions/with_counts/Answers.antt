@@ -7,8 +7,8 @@ use Rattle.driver.proofs.sessions.with_counts.Goals as goal
 pub returns : goal.returns
 returns c =
     then
-    (then c.number32-after.ensures
-    (then c.number32-after-2.ensures
-    (then c.number32-after-3.ensures
-    (then c.number32-after-4.ensures (alone c.number32-after-5.ensures)))))
+    (then c.number-after.ensures
+    (then c.number-after-2.ensures
+    (then c.number-after-3.ensures
+    (then c.number-after-4.ensures (alone c.number-after-5.ensures)))))
     c.byte.ensures

@@ -6,4 +6,4 @@ use Rattle.driver.proofs.sessions.with_numbers.Goals as goal
 
 pub returns : goal.returns
 returns c =
-    then c.decimal-after.ensures (then c.number32-after.ensures (then c.number32-after-2.ensures (then c.number8-after.ensures (alone c.number32.ensures))))
+    then c.decimal-after.ensures (then c.number-after.ensures (then c.number-after-2.ensures (then c.number-after-3.ensures (alone c.number.ensures))))

@@ -14,4 +14,4 @@ returns c =
     let messages = then held (then c.byte.ensures c.with_messages.ensures) in
     let said = then c.with_numbers-numbers.ensures (then c.with_services-services.ensures messages) in
     let mark : List ℕ = pick (leb a.text.end a.start) [] (59 ∷ []) in
-    session_read mark a.link.now a.i c.row_at-row.ensures c.owners.ensures.0 (then c.joint.ensures said)
+    session_read mark a.link.now a.i.number c.row_at-row.ensures c.owners.ensures (then c.joint.ensures said)

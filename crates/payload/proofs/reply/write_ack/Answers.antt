@@ -1,29 +1,21 @@
--- `payload::reply::write_ack` meets its contract: the major is judged first; then the size is known; then the document's length, its elements and its last 0.
+-- `payload::reply::write_ack` meets its contract: the major is judged first; then the document of hashId, mtu and protocolVersion goes to the front.
 -- Assumes nothing.
-use mathlib.Core.Path.{◌∙◌}
 use native.Mathlib.Omega.{arith}
-use Rattle.payload.specs.Reply.{ack_payload}
-use Rattle.payload.proofs.Appends.{then_put, too_small, all_put, out_of_range, in_range_put}
-use Rattle.payload.proofs.Replies.{length_ack, number_ends, grant_ends, string_ends, document_put}
+use mathlib.Core.Path.{ap, ◌∙◌}
+use mathlib.Core.List.{List}
+use Rattle.std.specs.Prelude.{ℕ}
+use Rattle.payload.specs.Append.{put_of}
+use Rattle.payload.specs.Reply.{document, ack_payload}
+use Rattle.payload.proofs.Appends.{out_of_range, in_range_put}
 use Rattle.payload.proofs.reply.write_ack.Goals as goal
 
-pub returns-then-version-lt1 : goal.returns-then-version-lt1
-unfolding ack_payload
-returns-then-version-lt1 c = let a = c.args in out_of_range a.version (ack_payload a.hash a.mtu a.version) _ (omega arith)
-
-pub returns-then-out-end : goal.returns-then-out-end
-unfolding ack_payload
-returns-then-out-end c = let a = c.args in too_small (ack_payload a.hash a.mtu a.version) _ _ (length_ack _ _ _) (omega arith) ∙ in_range_put a.version (ack_payload a.hash a.mtu a.version) _ (omega arith)
-
-pub put_grant-second-requires : goal.put_grant-second-requires
-put_grant-second-requires c = omega (arith, number_ends)
-
-pub put_version-last-requires : goal.put_version-last-requires
-put_version-last-requires c = omega (arith, number_ends, grant_ends)
-
-pub put_byte-requires : goal.put_byte-requires
-put_byte-requires c = omega (arith, number_ends, grant_ends, string_ends)
+pub returns-then-unsaid : goal.returns-then-unsaid
+returns-then-unsaid c = let a = c.args in out_of_range a.version (ack_payload a.hash a.mtu a.version) _ (omega arith)
 
 pub returns : goal.returns
 unfolding ack_payload
-returns c = let a = c.args in let tags = then_put (omega (arith, number_ends, grant_ends)) c.put_grant-second.ensures c.put_version-last.ensures in all_put (ack_payload a.hash a.mtu a.version) _ _ (length_ack _ _ _) (omega arith) (omega arith) (document_put _ _ (omega (arith, grant_ends, string_ends)) (omega (arith, number_ends, grant_ends, string_ends)) c.put_four-first.ensures tags c.put_byte.ensures) ∙ in_range_put a.version (ack_payload a.hash a.mtu a.version) _ (omega arith)
+returns c =
+    let a = c.args in
+    c.write.ensures
+    ∙ ap (λ (e : List ℕ). put_of (document e) a.out.now) (c.string.ensures.value ∙ rw (c.as_slice.ensures, c.text-text.ensures.value, c.grant.ensures.value, c.new-elements.ensures))
+    ∙ in_range_put a.version (ack_payload a.hash a.mtu a.version) _ (omega arith)

@@ -10,5 +10,5 @@ use Rattle.text.proofs.Text.digits.Goals as goal
 pub returns : goal.returns
 returns c =
     let s = c.args.bytes.now in
-    let e = piece (hex_of s) (replicate 2048 0) c.bytes_to_hex.ensures c.written-count.ensures 2048 (length-replicate {A = ℕ} 2048 0) in
+    let e = piece (hex_of s) (replicate 2048 0) c.bytes_to_hex.ensures c.unwrap_or-count.ensures 2048 (length-replicate {A = ℕ} 2048 0) in
     renamed (c.front.ensures ∙ e) c.put.ensures

@@ -4,4 +4,4 @@ use Rattle.text.proofs.Texts.{then}
 use Rattle.text.proofs.Text.number.Goals as goal
 
 pub returns : goal.returns
-returns c = then c.byte.ensures c.decimal.ensures
+returns g c = then c.byte.ensures c.decimal.ensures

@@ -13,11 +13,11 @@ returns c =
     let s = c.args.text.now in
     let l : length t.chars ≡ 4096 = omega arith in
     let q = c.put-end.ensures in
-    let e = c.least.ensures ∙ ap (λ (n : ℕ). min n 4096) q.value in
+    let e = c.min.ensures ∙ ap (λ (n : ℕ). min n 4096) q.value in
     record {
-      says = ap (take c.least.result) q.buffer_after ∙ put_said t.chars l t.end s e;
-      within = omega (arith, c.least.ensures);
-      ends = front_ends _ (omega (arith, c.least.ensures, q.upper_bound));
+      says = ap (take c.min.result) q.buffer_after ∙ put_said t.chars l t.end s e;
+      within = omega (arith, c.min.ensures);
+      ends = front_ends _ (omega (arith, c.min.ensures, q.upper_bound));
       cut = refl;
       size = refl;
     }

@@ -11,9 +11,9 @@ returns c =
     let t = c.args.self in
     let l : length t.chars ≡ 4096 = omega arith in
     record {
-      says = same_said t.chars l t.end c.least.ensures;
-      within = omega (arith, c.least.ensures);
-      ends = front_ends _ (omega (arith, c.least.ensures, l));
+      says = same_said t.chars l t.end c.min.ensures;
+      within = omega (arith, c.min.ensures);
+      ends = front_ends _ (omega (arith, c.min.ensures, l));
       cut = refl;
       size = refl;
     }
