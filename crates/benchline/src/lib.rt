@@ -112,7 +112,7 @@ fn put_refusal(refusal: Refusal, at: usize, text: &mut [u8]) -> usize
 {
     let letter = put_byte(b'R', at, text);
     let space = put_byte(b' ', letter, text);
-    put_decimal(u64::from(refusal.number()), space, text)
+    put_decimal(u64::from(refusal), space, text)
 }
 
 fn put_reply(bytes: &[u8], at: usize, text: &mut [u8]) -> usize

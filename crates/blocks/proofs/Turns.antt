@@ -118,6 +118,13 @@ pass_group owner map first n i left from {r} {groups} item e z f h g c q at =
     let here : item ≡ take n (drop from map) = g ∙ group_at behind item n i (length behind / n) e' h ∙ rw (drop-drop (i * n) first map, at) in
     (omega arith, omega (arith, group_pass owner map from n (c ∙ ap (held_by owner) here) left (omega (arith, length-drop first map)) q))
 
+-- in the part of the map from a block on: its length, and an entry
+pub part_length : (map : List ℕ) (from : ℕ) → length (take (length map - from) (drop from map)) ≡ length map - from
+part_length map from = rw (rest_lent map from) (length-drop from map)
+
+pub entry_is : (map : List ℕ) (from i : ℕ) {at : ℕ} → at ≡ from + i → get_or (take (length map - from) (drop from map)) i 0 ≡ get_or map at 0
+entry_is map from i p = rw (rest_lent map from, p) (get_or-drop from map i 0)
+
 -- a block that was looked for and found, and one that was not
 pub found_in : (k : ℕ) (map : List ℕ) {b : BlockNumber} {r : Option BlockNumber} → r ≡ found_at k map → r ≡ Some b → (b.0 ≡ k) × (b.0 < length map)
 unfolding found_at

@@ -1,6 +1,6 @@
 -- What a whole line does: the link's state, the pool and the line that answers it; docs/DRIVER.md, `new` and `call`. What these calls do is `create_in` and
 -- `call_in` (state/specs/Calls), a call's answer by number and values (link/specs/Values). Assumes nothing.
-use Rattle.std.specs.Prelude.{ℕ, zero, suc, ◌+◌, ◌%◌, Bool, true, List, [], ◌∷◌, ◌++◌, length, take, ◌==◌}
+use Rattle.std.specs.Prelude.{ℕ, zero, suc, ◌+◌, ◌%◌, Bool, true, false, List, [], ◌∷◌, ◌++◌, length, take, ◌==◌}
 use Rattle.numbers.specs.Bytes.{pick}
 use Rattle.lines.specs.Hex.{hex_of}
 use Rattle.lines.specs.Decimal.{decimal_of}
@@ -31,6 +31,10 @@ leaving linked state pool written = record { linked = linked; state = state; poo
 -- the same, as the code answers it
 abbrev pub left : Bool → Store → List ℕ → Left
 left linked s written = leaving linked s.state s.pool written
+
+-- before the first line there is no link
+abbrev pub no_link : Bool
+no_link = false
 
 -- ---- new M m p MTU
 

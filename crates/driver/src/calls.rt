@@ -1,6 +1,6 @@
-// The commands `new` and `call`: they make the link, or call it. Whoever reads the lines keeps whether there is one.
+// The commands `new` and `call`: they make the link, or call it. The store has whether there is one; `obey` of main.rt keeps it up to date.
 // It assumes nothing of the line and nothing of the state. No rule of the protocol stands here.
-ghost use Rattle.std.specs.Prelude.{◌≡◌, true};
+ghost use Rattle.std.specs.Prelude.{◌≡◌, ◌≤◌, true, IfErr};
 ghost use Rattle.figures.specs.Refusal.{refusal_in};
 ghost use Rattle.text.specs.Said.{Started, Longer};
 ghost use Rattle.link.specs.declared.Answer.TheVariants.{Delivered};
@@ -8,7 +8,7 @@ ghost use Rattle.link.specs.Values.{values_of};
 ghost use Rattle.state.specs.Calls.{left as left_by, told_of};
 ghost use Rattle.driver.specs.Spelling.{Holds, with_hex, letter_and};
 ghost use Rattle.driver.specs.Answers.{lent_out};
-ghost use Rattle.driver.specs.Turns.{left, new_pool, version_of, created_text, new_of, grant_of, answer_line, checks_text, called_by, called_of};
+ghost use Rattle.driver.specs.Turns.{left, no_link, new_pool, version_of, created_text, new_of, grant_of, answer_line, checks_text, called_by, called_of};
 
 use crate::{output, sessions};
 use figures::refusal::Refusal;
@@ -22,9 +22,10 @@ use words::Command;
 
 const POOL: usize = 65536;
 
-// What is lent to each call of the link: its state's bytes and its pool.
+// Whether there is a link, and what is lent to each call of it: its state's bytes and its pool.
 #[derive(Drop)]
 pub struct Store {
+    pub linked: bool,
     pub state: [u8; LENGTH],
     pub pool: [u8; POOL],
 }
@@ -41,11 +42,12 @@ fn fill_pool(pool: &mut [u8])
 }
 
 fn created_text(created: Result<(), Refusal>) -> Text
+    requires { IfErr created (λ number. 1 ≤ number) }
     ensures { Started (created_text (refusal_in created)) result }
 {
     match created {
         Ok(()) => Text::empty().put(b"ok"),
-        Err(refusal) => Text::refused(refusal.number()),
+        Err(refusal) => Text::refused(refusal),
     }
 }
 
@@ -80,7 +82,7 @@ fn answer_text(answer: Answer) -> Text
 {
     match answer {
         Answer::Short(needed) => Text::answer(b'S', needed),
-        Answer::Refused(refusal) => Text::refused(refusal.number()),
+        Answer::Refused(refusal) => Text::refused(refusal),
         Answer::Acked(consumed, size)
         | Answer::Nacked(consumed, size)
         | Answer::Beat(consumed, size) => reply_text(consumed, size),
@@ -109,8 +111,11 @@ fn grant_of(command: Command) -> Grant
 
 impl Store {
     // Before the first line there is no link.
-    pub fn new() -> Store {
+    pub fn new() -> Store
+        ensures { result.linked ≡ no_link }
+    {
         Store {
+            linked: false,
             state: [0; LENGTH],
             pool: [0; POOL],
         }

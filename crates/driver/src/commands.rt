@@ -1,13 +1,13 @@
 // The commands that need no link: a function for each makes one call and answers its text. A further command is one function more here, and its name and
 // limits in the library `words`. `input` are the bytes that the line says. `out` is an untouched out buffer; the bytes that an answer spells stand at its front.
 // It assumes nothing of the line. No rule of the protocol stands here.
-ghost use Rattle.std.specs.Prelude.{◌≡◌};
+ghost use Rattle.std.specs.Prelude.{◌≡◌, [], ◌∷◌};
 ghost use Rattle.frame.specs.Read.{read_of};
 ghost use Rattle.frame.specs.Write.{wrote};
 ghost use Rattle.payload.specs.Walk.{payload_of};
 ghost use Rattle.text.specs.Said.{Started, Longer};
 ghost use Rattle.driver.specs.Spelling.{Holds, numbers_by};
-ghost use Rattle.driver.specs.Answers.{header_numbers, frame_line, read_by, header_of, outgoing_of, wrote_by, written_line, filled_of, tag_text, version_text, tags_text, payload_text, line_in, lent_out, answer_to};
+ghost use Rattle.driver.specs.Answers.{header_numbers, frame_line, read_by, header_of, outgoing_of, wrote_by, written_line, filled_of, tag_text, version_text, tags_text, payload_text, plain_line, line_in, lent_out, answer_to};
 
 use crate::{messages, output};
 use figures::refusal::Refusal;
@@ -51,7 +51,7 @@ fn read(input: &[u8], out: &mut [u8]) -> Text
             let size = text::put(out, 0, frame::payload(input, extent));
             frame_text(header, extent.consumed, size)
         }
-        Reading::Refused(refusal) => Text::refused(refusal.number()),
+        Reading::Refused(refusal) => Text::refused(refusal),
         Reading::Short(needed) => Text::answer(b'S', needed),
     }
 }
@@ -92,7 +92,7 @@ fn written_text(written: Result<usize, Refusal>, out: &[u8]) -> Text
             let text = Text::answer(b'B', count);
             text.number(b' ', text::check(out)).hex(count)
         }
-        Err(refusal) => Text::refused(refusal.number()),
+        Err(refusal) => Text::refused(refusal),
     }
 }
 
@@ -146,7 +146,7 @@ fn read_payload(input: &[u8]) -> Text
 {
     match payload::read(input) {
         Ok(tags) => with_tags(version_text(tags.version, input), tags),
-        Err(refusal) => Text::refused(refusal.number()),
+        Err(refusal) => Text::refused(refusal),
     }
 }
 
@@ -182,6 +182,23 @@ fn fill(command: Command, input: &[u8], line: &mut Line)
     fill_into(command, input, &mut out[..lent], line);
 }
 
+// The answer to a payload. This one and the next stay functions of their own: put into the one that calls them, the characters of their texts would be cleared
+// for each line, also for one that gets no answer.
+#[inline(never)]
+fn lay_payload(input: &[u8], line: &mut Line)
+    ensures { line.new ≡ plain_line (payload_text input.now (payload_of input.now)) }
+{
+    line.lay_plain(read_payload(input));
+}
+
+// The answer to what is no command, or none without a link.
+#[inline(never)]
+fn lay_unreadable(line: &mut Line)
+    ensures { line.new ≡ plain_line (63 ∷ []) }
+{
+    line.lay_plain(Text::empty().byte(b'?'));
+}
+
 // Carries out a command, and spells its answer.
 #[tactic(auto, unfolding(crate::specs::Answers::answer_to))]
 pub fn obey(command: Command, input: &[u8], line: &mut Line)
@@ -189,9 +206,9 @@ pub fn obey(command: Command, input: &[u8], line: &mut Line)
 {
     match command.kind {
         Kind::Silent => line.clear(),
-        Kind::Payload => line.lay_plain(read_payload(input)),
+        Kind::Payload => lay_payload(input, line),
         Kind::Rpc => messages::read(command, input, line),
         Kind::Read | Kind::Write | Kind::Send | Kind::RpcWrite => fill(command, input, line),
-        Kind::Unreadable | Kind::New | Kind::Call => line.lay_plain(Text::empty().byte(b'?')),
+        Kind::Unreadable | Kind::New | Kind::Call => lay_unreadable(line),
     }
 }

@@ -131,20 +131,15 @@ impl Input {
     }
 }
 
-// Carries out a command, and spells its answer. Answers whether there is a link after it: no Option of the store, of which `turn_of` keeps the bytes while there
-// is none. Its last words' bytes stand at the front of `content`.
+// Carries out a command, and spells its answer. The store has whether there is a link after it: no Option, since `turn_of` keeps the bytes while there is none.
+// The command's last words' bytes stand at the front of `content`.
 #[tactic(auto, unfolding(crate::specs::Turns::turn_of))]
-fn obey(
-    linked: bool,
-    command: Command,
-    content: &[u8; CONTENT],
-    store: &mut Store,
-    line: &mut Line,
-) -> bool
-    ensures { left result store.new line.new ≡ turn_of linked command content.now store.old.state store.old.pool }
+fn obey(command: Command, content: &[u8; CONTENT], store: &mut Store, line: &mut Line)
+    ensures { left store.new.linked store.new line.new ≡ turn_of store.old.linked command content.now store.old.state store.old.pool }
 {
     let input = text::front(content, command.count);
-    match command.kind {
+    let linked = store.linked;
+    store.linked = match command.kind {
         Kind::New => store.create(command, line),
         Kind::Call if linked => {
             store.call(command, input, line);
@@ -154,7 +149,7 @@ fn obey(
             commands::obey(command, input, line);
             linked
         }
-    }
+    };
 }
 
 // A proved loop has to end, and nothing says that the input does. So the turns are counted, up to a number that no run reaches.
@@ -165,7 +160,6 @@ fn main(rt: HostRuntime) {
     let mut store = Store::new();
     let mut answer = Line::new();
     let mut input = Input::new();
-    let mut linked = false;
     for _ in 0..u64::MAX {
         if !input.more {
             break;
@@ -173,7 +167,7 @@ fn main(rt: HostRuntime) {
         input.begin();
         input.step(&mut reader);
         let command = input.command(&mut content);
-        linked = obey(linked, command, &content, &mut store, &mut answer);
+        obey(command, &content, &mut store, &mut answer);
         input.after_write(answer.write(&mut writer));
     }
 }

@@ -75,7 +75,7 @@ pub fn read(command: Command, input: &[u8], line: &mut Line)
             parts,
         ),
         Ok(Content::Bare(parts)) => line.lay_parts(bare_text(), input, parts),
-        Err(refusal) => line.lay_plain(Text::refused(refusal.number())),
+        Err(refusal) => line.lay_plain(Text::refused(refusal)),
     }
 }
 

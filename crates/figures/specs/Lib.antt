@@ -2,4 +2,3 @@ pub mod Refusal
 pub mod Service
 pub mod FrameType
 pub mod Command
-pub mod Reason

@@ -10,7 +10,7 @@ ghost use Rattle.frame.specs.Read.{front_of, message_of, read_of};
 ghost use Rattle.frame.specs.Write.{header_bytes, wrote, write_header_of, write_of};
 ghost use Rattle.frame.specs.Message.{frame_number, totals_fit};
 
-use figures::refusal::Refusal;
+use figures::refusal::{self, Refusal};
 use figures::{frame_type, service};
 
 // Three kinds of number that are never exchanged by mistake. A service is a number too: any byte can stand in a header, and those not listed are refused.
@@ -112,22 +112,22 @@ pub fn fault(header: Header) -> Result<(), Refusal>
     ensures numbered { IfErr result (λ number. 1 ≤ number) }
 {
     if !known_version(header.version) {
-        return Err(Refusal::BAD_VERSION);
+        return Err(refusal::BAD_VERSION);
     }
     if frame_type::CONSECUTIVE < header.kind {
-        return Err(Refusal::BAD_FRAME_TYPE);
+        return Err(refusal::BAD_FRAME_TYPE);
     }
     if !listed_service(header.service) {
-        return Err(Refusal::BAD_SERVICE);
+        return Err(refusal::BAD_SERVICE);
     }
     if !info_fits(header.kind, header.info) {
-        return Err(Refusal::BAD_CONTROL_INFO);
+        return Err(refusal::BAD_CONTROL_INFO);
     }
     if !flag_fits(header.version, header.kind, header.flag) {
-        return Err(Refusal::BAD_FLAG);
+        return Err(refusal::BAD_FLAG);
     }
     if !size_fits(header.version, header.kind, header.size) {
-        return Err(Refusal::BAD_SIZE);
+        return Err(refusal::BAD_SIZE);
     }
     Ok(())
 }
@@ -232,7 +232,7 @@ pub fn write_header(header: Header, out: &mut [u8]) -> Result<usize, Refusal>
     fault(header)?;
     let size = header_size(header.version);
     if out.len() < size {
-        return Err(Refusal::TOO_SMALL);
+        return Err(refusal::TOO_SMALL);
     }
     put_header(header, out);
     Ok(size)
@@ -245,12 +245,12 @@ pub fn write(header: Header, payload: &[u8], out: &mut [u8]) -> Result<usize, Re
 {
     fault(header)?;
     if header.size as usize != payload.len() {
-        return Err(Refusal::BAD_SIZE);
+        return Err(refusal::BAD_SIZE);
     }
     let start = header_size(header.version);
     let end = start + payload.len();
     if out.len() < end {
-        return Err(Refusal::TOO_SMALL);
+        return Err(refusal::TOO_SMALL);
     }
     put_header(header, out);
     numbers::copy(payload, &mut out[start..end]);

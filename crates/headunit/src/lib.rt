@@ -28,7 +28,7 @@ ghost use Rattle.headunit.specs.Unit.{sent, sent_of, rejection, wished, version_
 ghost use Rattle.headunit.specs.Steps.{owners_after, changes, link_after, origin_of, from_opening, from_row, case_of, told, told_of, Repliable, Roomy};
 
 use blocks::Owner;
-use figures::refusal::Refusal;
+use figures::refusal::{self, Refusal};
 use figures::{command, frame_type, service};
 use frame::{Extent, Header, MessageId, Reading, ServiceType, SessionId};
 use link::{Answer, Grant};
@@ -503,17 +503,17 @@ fn take(
     ensures { left result link.new pool.new out.new ≡ left_by link.old (frame_of (link_of link.old) pool.old input.now out.old header extent grant) }
 {
     if out.len() < LEAST_OUT {
-        return Answer::Refused(Refusal::TOO_SMALL);
+        return Answer::Refused(refusal::TOO_SMALL);
     }
     let payload = frame::payload(input, extent);
     if is_opening(header) {
         return open(link, seen, extent.consumed, payload, grant, out);
     }
     if header.session.0 == 0 {
-        return Answer::Refused(Refusal::NOT_OPEN);
+        return Answer::Refused(refusal::NOT_OPEN);
     }
     let Some(i) = rules::index_of(seen.ids, header.session) else {
-        return Answer::Refused(Refusal::NOT_OPEN);
+        return Answer::Refused(refusal::NOT_OPEN);
     };
     let shared = Shares { all: seen.shared };
     within(
@@ -535,14 +535,14 @@ pub fn call(link: &mut [u8], pool: &mut [u8], input: &[u8], out: &mut [u8], gran
     ensures { outcome_of (left result link.new pool.new out.new) ≡ outcome_of (call_in link.old pool.old input.now out.old grant) }
 {
     let Some(state) = link.as_mut_array() else {
-        return Answer::Refused(Refusal::BAD_SETTINGS);
+        return Answer::Refused(refusal::BAD_SETTINGS);
     };
     if !state::is_state(state) {
-        return Answer::Refused(Refusal::BAD_SETTINGS);
+        return Answer::Refused(refusal::BAD_SETTINGS);
     }
     let seen = rules::survey(state, pool.len(), grant);
     if !seen.fit {
-        return Answer::Refused(Refusal::BAD_SETTINGS);
+        return Answer::Refused(refusal::BAD_SETTINGS);
     }
     match frame::read(input) {
         Reading::Short(needed) => Answer::Short(needed),
@@ -559,10 +559,10 @@ pub fn create(link: &mut [u8], version: Version, mtu: u32) -> Result<(), Refusal
     ensures refused { IfErr result (λ number. number ≡ bad_settings) }
 {
     let Some(state) = link.as_mut_array() else {
-        return Err(Refusal::BAD_SETTINGS);
+        return Err(refusal::BAD_SETTINGS);
     };
     if !rules::settings_fit(version, mtu) {
-        return Err(Refusal::BAD_SETTINGS);
+        return Err(refusal::BAD_SETTINGS);
     }
     state::create(state, version, mtu);
     Ok(())

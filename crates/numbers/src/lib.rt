@@ -2,7 +2,7 @@
 // Every public function but `copy` is total: a read counts only the bytes that are there, a write that does not fit changes nothing.
 #![tactic(auto)]
 
-ghost use Rattle.std.specs.Prelude.{◌≡◌, ℕ, ◌+◌, ◌-◌, ◌^◌, ◌≤◌, ◌<◌, min, length};
+ghost use Rattle.std.specs.Prelude.{◌≡◌, ℕ, ◌+◌, ◌-◌, ◌^◌, ◌%◌, ◌≤◌, ◌<◌, min, length};
 ghost use Rattle.std.proofs.Math.Seq.{paste};
 ghost use Rattle.std.proofs.Common.{rules};
 ghost use Rattle.numbers.specs.Bytes.{part, fits_in, put_at};
@@ -20,10 +20,9 @@ pub trait Number: Copy + Drop {
     // Its bytes.
     const WIDTH: usize;
 
-    // The number that is x.
+    // The number that the last bytes of x make: x itself, where it has no more.
     fn of(x: u64) -> Self
-        requires { x < 256 ^ WIDTH }
-        ensures { value result ≡ x };
+        ensures { value result ≡ x % 256 ^ WIDTH };
 
     fn wide(self) -> u64
         ensures { result ≡ value self };
@@ -39,7 +38,7 @@ impl Number for u8 {
     const WIDTH: usize = 1;
 
     fn of(x: u64) -> u8 {
-        x as u8
+        (x % 256) as u8
     }
 
     fn wide(self) -> u64 {
@@ -57,7 +56,7 @@ impl Number for u16 {
     const WIDTH: usize = 2;
 
     fn of(x: u64) -> u16 {
-        x as u16
+        (x % 65536) as u16
     }
 
     fn wide(self) -> u64 {
@@ -75,7 +74,7 @@ impl Number for u32 {
     const WIDTH: usize = 4;
 
     fn of(x: u64) -> u32 {
-        x as u32
+        (x % 4294967296) as u32
     }
 
     fn wide(self) -> u64 {

@@ -50,6 +50,10 @@ part_put b at n o e f =
     let m : drop (length b) (part o at (length b)) ≡ [] = drop_of_length-le (part o at (length b)) {i = length b} (omega (arith, length-take (length b) (drop at o))) in
     record { ends = e; puts = rw (f, z, m, append-nil, drop-drop) }
 
+-- what a public writer answers where so many bytes have no room
+pub too_small : (b o : List ℕ) {k : ℕ} → length b ≡ k → length o < k → wrote (Err 11) o ≡ put_of b o
+too_small b o {k} e h = rw (e, lt-leb k (length o) h)
+
 -- what a public writer answers whose bytes say a version
 module _ (v : Version) (b o : List ℕ) where
   pub out_of_range : v.major < 1 → wrote (Err 10) o ≡ saying_of v b o

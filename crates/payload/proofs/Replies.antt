@@ -1,7 +1,7 @@
 -- Each element and payload that is written: how many bytes it has. First document 01's marked payloads, by computation. Assumes nothing.
 use Prim.Native.Nat.{ℕ, ◌+◌, ◌≤◌, ◌<◌}
 use mathlib.Core.Path.{◌≡◌, refl, ◌∙◌}
-use mathlib.Core.List.{List, [], ◌∷◌, ◌++◌}
+use mathlib.Core.List.{List, [], ◌∷◌, ◌++◌, append_assoc}
 use native.Mathlib.Omega.{arith}
 use lib.ListN.{length, length-append}
 use Rattle.numbers.specs.Numbers.{bytes_le}
@@ -45,6 +45,11 @@ module _ (elements : List ℕ) where
   unfolding document
   length_document = simp (length-append, length_le) (omega arith)
 
+  -- its length, which is known before, its elements and a 0, each behind what was drafted
+  pub drafted : (n : ℕ) {front whole : List ℕ} → n ≡ 5 + length elements → front ≡ bytes_le 4 n ++ elements → whole ≡ front ++ 0 ∷ [] → whole ≡ document elements
+  unfolding document
+  drafted n z f e = e ∙ rw (f, z) (append_assoc (bytes_le 4 (5 + length elements)) elements (0 ∷ []))
+
 module _ (key : List ℕ) (x : ℕ) where
   pub length_int32 : length (int32_element key x) ≡ length key + 6
   unfolding int32_element
@@ -59,6 +64,11 @@ module _ (key text : List ℕ) where
   unfolding string_element
   length_string = simp (length-append, length_le) (omega (arith, length_head 0x02 key))
 
+  -- head, length, text and a 0, each behind what was drafted
+  pub string_drafted : (n : ℕ) (o : List ℕ) {q : List ℕ} → n ≡ length text + 1 → q ≡ o ++ element_head 0x02 key ++ bytes_le 4 n ++ text ++ 0 ∷ [] → q ≡ o ++ string_element key text
+  unfolding string_element
+  string_drafted n o z e = e ∙ rw z (simp append_assoc)
+
 -- hashId and mtu
 module _ (h m : ℕ) where
   pub length_grant : length (grant_elements h m) ≡ 25
@@ -71,10 +81,10 @@ module _ (h m : ℕ) where
 
 -- the opening's ACK
 module _ (h m : ℕ) (v : Version) where
-  abbrev tags : List ℕ
+  abbrev pub tags : List ℕ
   tags = grant_elements h m ++ string_element protocol_version (version_text v)
 
-  length_tags : length tags ≡ 47 + length (version_text v)
+  pub length_tags : length tags ≡ 47 + length (version_text v)
   length_tags = length-append (grant_elements h m) (string_element protocol_version (version_text v)) ∙ omega (arith, length_grant h m, length_string protocol_version (version_text v))
 
   pub length_ack : length (ack_payload h m v) ≡ 52 + length (version_text v)

@@ -5,7 +5,7 @@ ghost use Rattle.lines.specs.Decimal.{decimal_of};
 ghost use Rattle.payload.specs.Append.{wrote, put_of};
 ghost use Rattle.payload.specs.declared.draft.TheConstants.{ROOM};
 
-use figures::refusal::Refusal;
+use figures::refusal::{self, Refusal};
 use numbers::Number;
 use std::marker::Model;
 
@@ -34,6 +34,18 @@ impl Draft {
         Draft {
             bytes: [0; ROOM],
             length: 0,
+        }
+    }
+
+    // The first of these bytes.
+    pub(crate) fn of(bytes: [u8; ROOM], count: usize) -> Self
+        requires { count ≤ ROOM }
+        ensures value { result ≡ take count bytes }
+        ensures len { length result ≡ count }
+    {
+        Draft {
+            bytes,
+            length: count,
         }
     }
 
@@ -87,7 +99,7 @@ impl Draft {
         ensures { wrote result out.new ≡ put_of self.now out.old }
     {
         if out.len() < self.length {
-            return Err(Refusal::TOO_SMALL);
+            return Err(refusal::TOO_SMALL);
         }
         out[0..self.length].copy_from_slice(&self.bytes[0..self.length]);
         Ok(self.length)

@@ -2,7 +2,7 @@
 ghost use Rattle.std.specs.Prelude.{◌≡◌};
 ghost use Rattle.payload.specs.Walk.{nests, kind_of};
 
-use figures::refusal::Refusal;
+use figures::refusal::{self, Refusal};
 use std::marker::Model;
 
 // The types, each with its number.
@@ -47,14 +47,6 @@ impl Kind {
         bson: BsonType::Array,
     };
 
-    pub(crate) const INT32: Kind = Kind {
-        bson: BsonType::Int32,
-    };
-
-    pub(crate) const INT64: Kind = Kind {
-        bson: BsonType::Int64,
-    };
-
     pub(crate) fn number(self) -> u8
         ensures { result ≡ self }
     {
@@ -84,7 +76,7 @@ impl TryFrom<u8> for Kind {
             10 => BsonType::Null,
             16 => BsonType::Int32,
             18 => BsonType::Int64,
-            _ => return Err(Refusal::BAD_TYPE),
+            _ => return Err(refusal::BAD_TYPE),
         };
         Ok(Kind { bson })
     }

@@ -10,18 +10,29 @@ pub mod version;
 ghost use Rattle.std.specs.Prelude.{◌≡◌, false, ◌+◌, ◌-◌, ◌^◌, ◌≤◌, ◌<◌, length};
 ghost use Rattle.numbers.specs.Bytes.{part};
 ghost use Rattle.numbers.specs.Numbers.{value_le};
-ghost use Rattle.payload.specs.Tags.{same_bytes, tag_of, found, clashes, no_tags, string_at, hash_at, mtu_at, array_at, with_tag, rejected_in};
+ghost use Rattle.payload.specs.Tags.{same_bytes, tag_of, found, clashes, no_tags, string_at, hash_at, mtu_at, array_at, with_tag, bytes_in, rejected_in};
 ghost use Rattle.payload.specs.Walk.{read_type, nests, fixed_of, boolean_of, string_of, plain_of, tag_at, head_of, element_of, document_of, answer, payload_of};
 ghost use Rattle.payload.specs.Step.{stepped, StepIn};
 
 use crate::kind::{BsonType, Kind};
-use figures::refusal::Refusal;
+use figures::refusal::{self, Refusal};
 
 // A place in the caller's slice: where it begins, and its bytes.
 #[derive(Clone, Copy, Debug, Default, PartialEq, Eq)]
 pub struct Span {
     pub at: usize,
     pub length: usize,
+}
+
+impl Span {
+    // Its bytes in those of a caller, as far as these reach.
+    pub fn of(self, bytes: &[u8]) -> &[u8]
+        ensures { result.now ≡ bytes_in bytes.now self }
+    {
+        let start = self.at.min(bytes.len());
+        let end = start + self.length.min(bytes.len() - start);
+        &bytes[start..end]
+    }
 }
 
 // The known tags of a payload, those that it has.
@@ -255,12 +266,12 @@ fn front(
     let key = at + 1;
     let stop = lines::find(bytes, key, end, 0);
     if end <= stop {
-        return Err(Refusal::MALFORMED);
+        return Err(refusal::MALFORMED);
     }
     let value = stop + 1;
     let tag = tag_at(top, bytes, key, stop);
     if does_clash(tags, tag, kind) {
-        return Err(Refusal::BAD_TAG);
+        return Err(refusal::BAD_TAG);
     }
     Ok((kind, tag, value))
 }
@@ -284,7 +295,7 @@ fn element(
         let (next, _) = document(bytes, value, end, levels, false, tags)?;
         Ok((next, tag, value))
     } else {
-        let next = plain(bytes, value, end, kind).ok_or(Refusal::MALFORMED)?;
+        let next = plain(bytes, value, end, kind).ok_or(refusal::MALFORMED)?;
         Ok((next, tag, value))
     }
 }
@@ -304,14 +315,14 @@ fn document(
 {
     let too_deep = levels == 0;
     if too_deep {
-        return Err(Refusal::TOO_DEEP);
+        return Err(refusal::TOO_DEEP);
     }
     if end - at < 4 {
-        return Err(Refusal::MALFORMED);
+        return Err(refusal::MALFORMED);
     }
     let size = size_at(bytes, at);
     if size < 5 || end - at < size {
-        return Err(Refusal::MALFORMED);
+        return Err(refusal::MALFORMED);
     }
     let last = at + size;
     let mut place = at + 4;
@@ -322,13 +333,13 @@ fn document(
             if place + 1 == last {
                 return Ok((last, so_far));
             }
-            return Err(Refusal::MALFORMED);
+            return Err(refusal::MALFORMED);
         }
         let (next, tag, value) = element(bytes, place, last, levels - 1, top, so_far)?;
         place = next;
         so_far = with_tag(bytes, so_far, tag, value);
     }
-    Err(Refusal::MALFORMED)
+    Err(refusal::MALFORMED)
 }
 
 // A control payload: the bytes behind a control frame's header, all of them. No bytes, no tags.
@@ -341,7 +352,7 @@ pub fn read(bytes: &[u8]) -> Result<Tags, Refusal>
         return Ok(Tags::default());
     }
     if lent < 5 || 1024 < lent || size_at(bytes, 0) != lent {
-        return Err(Refusal::BAD_LENGTH);
+        return Err(refusal::BAD_LENGTH);
     }
     let (_, tags) = document(bytes, 0, lent, 8, true, Tags::default())?;
     Ok(tags)
@@ -351,8 +362,5 @@ pub fn read(bytes: &[u8]) -> Result<Tags, Refusal>
 pub fn rejected_params(bytes: &[u8], tags: Tags) -> &[u8]
     ensures { result.now ≡ rejected_in bytes.now tags }
 {
-    let span = tags.rejected.unwrap_or_default();
-    let start = span.at.min(bytes.len());
-    let end = start + span.length.min(bytes.len() - start);
-    &bytes[start..end]
+    tags.rejected.unwrap_or_default().of(bytes)
 }

@@ -3,13 +3,14 @@
 ghost use Rattle.std.specs.Prelude.{◌≡◌, ◌+◌, ◌≤◌, ◌++◌, length};
 ghost use Rattle.numbers.specs.Numbers.{bytes_le};
 ghost use Rattle.payload.specs.Append.{wrote, put_of};
+ghost use Rattle.payload.specs.Tags.{protocol_version};
+ghost use Rattle.payload.specs.Version.{version_text};
 ghost use Rattle.payload.specs.Reply.{element_head, document, string_element, grant_elements, name_of, service_ack_payload, nak_payload, write_ack_of};
 
 use crate::draft::{Draft, ROOM};
 use crate::kind::Kind;
-use crate::version::Version;
-use figures::refusal::Refusal;
-use numbers::Number;
+use crate::version::{self, Version};
+use figures::refusal::{self, Refusal};
 
 // The parameters that a NAK may name.
 #[derive(Clone, Copy, Debug, PartialEq, Eq)]
@@ -17,6 +18,11 @@ pub enum Parameter {
     ProtocolVersion,
     HashId,
 }
+
+// What every ACK with a payload begins with, its numbers 0: the document's length, hashId (an int32) and mtu (an int64), 29 bytes. Whole, and not element by
+// element, since a draft whose places are all known stays in registers.
+const GRANT: [u8; ROOM] =
+    *b"\0\0\0\0\x10hashId\0\0\0\0\0\x12mtu\0\0\0\0\0\0\0\0\0\0\0\0\0\0\0\0\0\0\0\0\0\0\0\0\0\0\0\0\0\0\0\0\0\0\0\0\0\0\0\0\0\0\0\0";
 
 impl Draft {
     // An element's type and key.
@@ -28,16 +34,6 @@ impl Draft {
         self.byte(kind.number());
         self.bytes(key);
         self.byte(0);
-    }
-
-    // A number as its bits: an int32, or an int64.
-    fn int<N: Number>(&mut self, kind: Kind, key: &[u8], x: N)
-        requires { length self.old + (length key.now + 2 + N.WIDTH) ≤ ROOM }
-        ensures value { self.new ≡ self.old ++ (element_head kind key.now ++ bytes_le N.WIDTH (N.value x)) }
-        ensures len { length self.new ≡ length self.old + (length key.now + 2 + N.WIDTH) }
-    {
-        self.head(kind, key);
-        self.number(x);
     }
 
     // A string; its length counts its last 0.
@@ -52,14 +48,28 @@ impl Draft {
         self.byte(0);
     }
 
-    // hashId and mtu: what every ACK with a payload grants.
-    fn grant(&mut self, hash: u32, mtu: u64)
-        requires { length self.old + 25 ≤ ROOM }
-        ensures value { self.new ≡ self.old ++ grant_elements hash mtu }
-        ensures len { length self.new ≡ length self.old + 25 }
+    // The document's length, hashId and mtu, each number as its bits.
+    fn grant(size: u32, hash: u32, mtu: u64) -> Self
+        ensures value { result ≡ bytes_le 4 size ++ grant_elements hash mtu }
+        ensures len { length result ≡ 29 }
     {
-        self.int(Kind::INT32, b"hashId", hash);
-        self.int(Kind::INT64, b"mtu", mtu);
+        let mut bytes = GRANT;
+        numbers::put_le(&mut bytes, 0, size);
+        numbers::put_le(&mut bytes, 12, hash);
+        numbers::put_le(&mut bytes, 21, mtu);
+        Draft::of(bytes, 29)
+    }
+
+    // protocolVersion: a version's string.
+    fn protocol_version(&mut self, version: Version)
+        requires { length self.old + 33 ≤ ROOM }
+        ensures value { self.new ≡ self.old ++ string_element protocol_version (version_text version) }
+        ensures bound { length self.new ≤ length self.old + 33 }
+    {
+        self.head(Kind::STRING, b"protocolVersion");
+        self.number(version::size(version) as u32 + 1);
+        self.version(version);
+        self.byte(0);
     }
 
     // A document around its elements; its length counts all of it.
@@ -91,22 +101,29 @@ pub fn write_ack(hash: u32, mtu: u64, version: Version, out: &mut [u8]) -> Resul
     // as in lib.rt, a name of its own for what is judged
     let unsaid = version.major < 1;
     if unsaid {
-        return Err(Refusal::BAD_SETTINGS);
+        return Err(refusal::BAD_SETTINGS);
     }
-    let text = version.text();
-    let mut elements = Draft::new();
-    elements.grant(hash, mtu);
-    elements.string(b"protocolVersion", text.as_slice());
-    write(&elements, out)
+    let end = version::size(version) + 52;
+    if out.len() < end {
+        return Err(refusal::TOO_SMALL);
+    }
+    let mut payload = Draft::grant(end as u32, hash, mtu);
+    payload.protocol_version(version);
+    payload.byte(0);
+    payload.write(out)
 }
 
 // The payload of a service's ACK in version 5: hashId, mtu.
 pub fn write_service_ack(hash: u32, mtu: u64, out: &mut [u8]) -> Result<usize, Refusal>
     ensures { wrote result out.new ≡ put_of (service_ack_payload hash mtu) out.old }
 {
-    let mut elements = Draft::new();
-    elements.grant(hash, mtu);
-    write(&elements, out)
+    let end = 30;
+    if out.len() < end {
+        return Err(refusal::TOO_SMALL);
+    }
+    let mut payload = Draft::grant(end as u32, hash, mtu);
+    payload.byte(0);
+    payload.write(out)
 }
 
 // A payload with rejectedParams alone: an array of one name.

@@ -1,10 +1,11 @@
 // Version strings: document 01, "Control payloads". Three decimal parts of value 0 to 255, no spare zeros, major at least 1.
-ghost use Rattle.std.specs.Prelude.{◌≡◌, ◌+◌, ◌≤◌, length};
+ghost use Rattle.std.specs.Prelude.{◌≡◌, ◌+◌, ◌≤◌, ◌++◌, length};
+ghost use Rattle.lines.specs.Decimal.{decimal_of};
 ghost use Rattle.payload.specs.Append.{wrote};
 ghost use Rattle.payload.specs.Version.{spare_zero, part_of, before_dot, after_dot, version_of, version_text, write_version_of, lesser_of};
 
-use crate::draft::Draft;
-use figures::refusal::Refusal;
+use crate::draft::{Draft, ROOM};
+use figures::refusal::{self, Refusal};
 
 // The fields stand in the order in which versions are compared.
 #[derive(Clone, Copy, Debug, PartialEq, Eq, PartialOrd, Ord)]
@@ -75,28 +76,41 @@ pub fn read(text: &[u8]) -> Option<Version>
     })
 }
 
-impl Version {
-    // Its string: 5 to 11 bytes.
-    pub(crate) fn text(self) -> Draft
-        ensures value { result ≡ version_text self }
-        ensures bound { length result ≤ 11 }
+impl Draft {
+    // A version's string: 5 to 11 bytes.
+    pub(crate) fn version(&mut self, version: Version)
+        requires { length self.old + 11 ≤ ROOM }
+        ensures value { self.new ≡ self.old ++ version_text version }
+        ensures bound { length self.new ≤ length self.old + 11 }
     {
-        let mut text = Draft::new();
-        text.decimal(self.major);
-        text.byte(b'.');
-        text.decimal(self.minor);
-        text.byte(b'.');
-        text.decimal(self.patch);
-        text
+        self.decimal(version.major);
+        self.byte(b'.');
+        self.decimal(version.minor);
+        self.byte(b'.');
+        self.decimal(version.patch);
+    }
+}
+
+// How many digits a part has.
+#[tactic(auto, using(crate::proofs::Versions::digits_one, crate::proofs::Versions::digits_two, crate::proofs::Versions::digits_three))]
+fn width(n: u8) -> usize
+    ensures { (result ≡ length (decimal_of n)) × (result ≤ 3) }
+{
+    if n < 10 {
+        1
+    } else if n < 100 {
+        2
+    } else {
+        3
     }
 }
 
 // How many bytes a version's string has: 5 to 11.
+#[tactic(auto, using(crate::proofs::Versions::length_version))]
 pub fn size(version: Version) -> usize
     ensures { (result ≡ length (version_text version)) × (result ≤ 11) }
 {
-    let text = version.text();
-    text.as_slice().len()
+    width(version.major) + width(version.minor) + width(version.patch) + 2
 }
 
 // A version's string to the front of out. No string says a major of 0.
@@ -106,9 +120,14 @@ pub fn write(version: Version, out: &mut [u8]) -> Result<usize, Refusal>
     // as in lib.rt, a name of its own for what is judged
     let unsaid = version.major < 1;
     if unsaid {
-        return Err(Refusal::BAD_SETTINGS);
+        return Err(refusal::BAD_SETTINGS);
     }
-    let text = version.text();
+    let end = size(version);
+    if out.len() < end {
+        return Err(refusal::TOO_SMALL);
+    }
+    let mut text = Draft::new();
+    text.version(version);
     text.write(out)
 }
 

@@ -2,7 +2,7 @@
 // A payload comes as the link delivers it: bytes and the session's version. No frame, session or pool is known here, and JSON stays uninterpreted.
 #![tactic(auto)]
 
-ghost use Rattle.std.specs.Prelude.{◌≡◌, true, ◌++◌, ◌+◌, ◌-◌, ◌*◌, ◌≤◌, length};
+ghost use Rattle.std.specs.Prelude.{◌≡◌, true, ◌++◌, ◌+◌, ◌-◌, ◌*◌, ◌≤◌, length, IfErr};
 ghost use Rattle.figures.specs.Refusal.{refusal_in};
 ghost use Rattle.numbers.specs.Bytes.{part, laid};
 ghost use Rattle.numbers.specs.Numbers.{value_be};
@@ -12,7 +12,7 @@ ghost use Rattle.rpc.specs.Layout.{layout_bytes, fields_in, function_of, query_o
 ghost use Rattle.rpc.specs.Read.{message_in, read_of};
 ghost use Rattle.rpc.specs.Write.{bare_of, whole_of, write_of};
 
-use figures::refusal::Refusal;
+use figures::refusal::{self, Refusal};
 use figures::service;
 use frame::{Extent, ServiceType};
 
@@ -142,26 +142,28 @@ fn id_fits(form: Form, id: u32) -> bool
 // The first of 41 and 42 that a header earns, whatever the sizes are.
 #[tactic(auto, unfolding(crate::specs::Rules::fault_of))]
 fn header_fault(form: Form, fields: Fields) -> Result<(), Refusal>
-    ensures { refusal_in result ≡ fault_of form fields true true }
+    ensures lowest { refusal_in result ≡ fault_of form fields true true }
+    ensures numbered { IfErr result (λ number. 1 ≤ number) }
 {
     if !kind_fits(form, fields.kind) {
-        return Err(Refusal::RPC_BAD_TYPE);
+        return Err(refusal::RPC_BAD_TYPE);
     }
     if !id_fits(form, fields.id) {
-        return Err(Refusal::RPC_BAD_ID);
+        return Err(refusal::RPC_BAD_ID);
     }
     Ok(())
 }
 
 // The first of 43 and 44, which come behind those. `sized`: the JSON size is right; `ends`: nothing follows the JSON.
 fn size_fault(form: Form, sized: bool, ends: bool) -> Result<(), Refusal>
-    ensures { refusal_in result ≡ size_fault form sized ends }
+    ensures lowest { refusal_in result ≡ size_fault form sized ends }
+    ensures numbered { IfErr result (λ number. 1 ≤ number) }
 {
     if !sized {
-        return Err(Refusal::RPC_BAD_JSON_SIZE);
+        return Err(refusal::RPC_BAD_JSON_SIZE);
     }
     if form == Form::Rpc && !ends {
-        return Err(Refusal::RPC_BULK);
+        return Err(refusal::RPC_BULK);
     }
     Ok(())
 }
@@ -249,7 +251,7 @@ pub fn read(form: Form, version: u8, payload: &[u8]) -> Result<Content, Refusal>
     ensures { result ≡ read_of form version payload.now }
 {
     if !frame::known_version(version) {
-        return Err(Refusal::BAD_VERSION);
+        return Err(refusal::BAD_VERSION);
     }
     let end = payload.len();
     if is_bare(form, version) {
@@ -260,7 +262,7 @@ pub fn read(form: Form, version: u8, payload: &[u8]) -> Result<Content, Refusal>
         }));
     }
     if end < 12 {
-        return Err(Refusal::RPC_TOO_SHORT);
+        return Err(refusal::RPC_TOO_SHORT);
     }
     read_whole(form, payload)
 }
@@ -351,11 +353,11 @@ fn write_bare(json: &[u8], bulk: &[u8], out: &mut [u8]) -> Result<usize, Refusal
     ensures { wrote result out.new ≡ bare_of json.now bulk.now out.old }
 {
     if !bulk.is_empty() {
-        return Err(Refusal::RPC_BULK);
+        return Err(refusal::RPC_BULK);
     }
     let end = json.len();
     if out.len() < end {
-        return Err(Refusal::TOO_SMALL);
+        return Err(refusal::TOO_SMALL);
     }
     numbers::copy(json, &mut out[0..end]);
     Ok(end)
@@ -378,7 +380,7 @@ fn write_whole(
     size_fault(form, size as usize == json.len(), bulk.is_empty())?;
     let front = 12 + json.len();
     if out.len() < front || out.len() - front < bulk.len() {
-        return Err(Refusal::TOO_SMALL);
+        return Err(refusal::TOO_SMALL);
     }
     put_whole(form, fields, json, bulk, out);
     Ok(front + bulk.len())
@@ -397,7 +399,7 @@ pub fn write(
     ensures { wrote result out.new ≡ write_of version header size json.now bulk.now out.old }
 {
     if !frame::known_version(version) {
-        return Err(Refusal::BAD_VERSION);
+        return Err(refusal::BAD_VERSION);
     }
     if is_bare(form_in(header), version) {
         return write_bare(json, bulk, out);

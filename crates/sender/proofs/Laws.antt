@@ -9,15 +9,16 @@ use lib.ListN.{length, drop, length-append, drop_of_length-le}
 use borrow.Author.Tests.{eq-eqb, ne_eqb, le-leb, lt-leb}
 use Rattle.numbers.specs.Bytes.{put_at, laid}
 use Rattle.numbers.specs.Numbers.{bytes_be}
+use Rattle.numbers.proofs.Choices.{split}
 use Rattle.numbers.proofs.Laws.{length_be, put_fits}
-use Rattle.frame.specs.Rules.{info_fits, flag_fits, size_fits, fault_of}
+use Rattle.frame.specs.Rules.{known_version, listed_service, info_fits, flag_fits, size_fits, fault_of}
 use Rattle.frame.specs.Message.{totals_fit}
 use Rattle.frame.specs.Write.{put_of}
 use Rattle.frame.proofs.Buffers.{laid_more, laid_length, pasted}
 use Rattle.frame.proofs.Message.{totals_range}
 use Rattle.frame.proofs.Laws.{no_fault, single_size, first_size, next_size}
 use Rattle.sender.specs.declared.Outgoing.{Outgoing}
-use Rattle.sender.specs.Sender.{Ready, Planned, header_for, fits_one, count_of, single_plan, first_plan, next_plan, frame_at, last_place, bytes_of, refused, send_of}
+use Rattle.sender.specs.Sender.{Ready, Planned, header_for, fits_one, count_of, single_plan, first_plan, next_plan, frame_at, last_place, bytes_of, chunk_fits, unready, refused, send_of}
 use Rattle.sender.proofs.Counts.{chunk_range}
 
 any_info : (kind info : ℕ) → (kind ≡ 0 → ⊥) → info_fits kind info ≡ true
@@ -81,6 +82,29 @@ module _ (o : Outgoing) (k : ℕ) (m : List ℕ) where
   unfolding frame_at
   at_next e z = rw (e, ne_eqb k 0 z)
 
+-- what is refused before anything is looked at but what all frames share
+pub sends_unready : (o : Outgoing) (k : ℕ) (m out : List ℕ) {n : ℕ} → n ≡ unready o → 1 ≤ n → refused n out ≡ send_of o k m out
+unfolding send_of
+sends_unready o k m out {n} e h =
+    split (known_version o.version)
+    (λ v. split (listed_service o.service)
+    (λ s. split (chunk_fits o.version o.chunk)
+    (λ c. let none : n ≡ 0 = rw (v, s, c) at e in absurd (omega arith))
+    (λ c. let ten : n ≡ 10 = rw (v, s, c) at e in rw (ten, v, s, c) refl))
+    (λ s. let three : n ≡ 3 = rw (v, s) at e in rw (three, v, s) refl))
+    (λ v. let one : n ≡ 1 = rw v at e in rw (one, v) refl)
+
+-- what nothing is refused of is ready
+pub ready_of : (o : Outgoing) → 0 ≡ unready o → Ready o
+ready_of o e =
+    split (known_version o.version)
+    (λ v. split (listed_service o.service)
+    (λ s. split (chunk_fits o.version o.chunk)
+    (λ c. record { version = v; service = s; chunk = c })
+    (λ c. let ten : 0 ≡ 10 = rw (v, s, c) at e in absurd (omega arith)))
+    (λ s. let three : 0 ≡ 3 = rw (v, s) at e in absurd (omega arith)))
+    (λ v. let one : 0 ≡ 1 = rw v at e in absurd (omega arith))
+
 -- each outcome of the definition from its tests
 module _ (o : Outgoing) (k : ℕ) (m out : List ℕ) (r : Ready o) where
   module _ (several : fits_one o m ≡ false) where
@@ -98,6 +122,6 @@ module _ (o : Outgoing) (k : ℕ) (m out : List ℕ) (r : Ready o) where
     sends-single h = ap (λ (f : Planned). put_of (bytes_of f) out) (sym (at_single o k m single)) ∙ rw (r.version, r.service, r.chunk, single, le-leb k 0 h)
 
 -- what the check needs to know of a message in one frame, and of one in several
-pub ruleset single = (sends_none, single_fault)
+pub ruleset single = (ready_of, sends_unready, sends_none, single_fault)
 
 pub ruleset several = (chunk_range, totals_range)

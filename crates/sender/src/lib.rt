@@ -2,7 +2,7 @@
 // It keeps no state: whoever sends asks for frame 0, 1, 2 .. until the answer is that there is none (26).
 #![tactic(auto)]
 
-ghost use Rattle.std.specs.Prelude.{◌≡◌, false, ◌≤◌, ◌++◌, IfOk, length};
+ghost use Rattle.std.specs.Prelude.{◌≡◌, false, ◌≤◌, ◌++◌, IfErr, length};
 ghost use Rattle.numbers.specs.Numbers.{bytes_be};
 ghost use Rattle.frame.specs.Rules.{fault_of};
 ghost use Rattle.figures.specs.Refusal.{refusal_in};
@@ -10,7 +10,7 @@ ghost use Rattle.frame.specs.Write.{wrote, put_of};
 ghost use Rattle.sender.specs.Sender.{Ready, unready, chunk_fits, fits_one, count_of, header_for, plan, bytes_of, next_plan, send_of};
 
 use figures::frame_type;
-use figures::refusal::Refusal;
+use figures::refusal::{self, Refusal};
 use frame::{Header, MessageId, ServiceType, SessionId};
 
 // What all frames of a message share. The chunk is the largest payload of one frame.
@@ -38,21 +38,21 @@ fn chunk_fits(version: u8, chunk: u32) -> bool
 }
 
 impl Outgoing {
-    // 1, 3 and 10, in this order.
-    fn checked(self) -> Result<Sendable, Refusal>
-        ensures refused { refusal_in result ≡ unready self }
-        ensures same { IfOk result (λ sendable. sendable.outgoing ≡ self) }
+    // 1, 3 and 10, in this order. No `Sendable` is handed out in the `Ok`: it is made where it is used, so that the compiler keeps its numbers where they are.
+    fn checked(self) -> Result<(), Refusal>
+        ensures lowest { refusal_in result ≡ unready self }
+        ensures numbered { IfErr result (λ number. 1 ≤ number) }
     {
         if !frame::known_version(self.version) {
-            return Err(Refusal::BAD_VERSION);
+            return Err(refusal::BAD_VERSION);
         }
         if !frame::listed_service(self.service) {
-            return Err(Refusal::BAD_SERVICE);
+            return Err(refusal::BAD_SERVICE);
         }
         if !chunk_fits(self.version, self.chunk) {
-            return Err(Refusal::BAD_SETTINGS);
+            return Err(refusal::BAD_SETTINGS);
         }
-        Ok(Sendable { outgoing: self })
+        Ok(())
     }
 
     // One frame with the data size of its payload.
@@ -123,10 +123,10 @@ impl Sendable {
     {
         let count = self.frame_count(message);
         if !frame::totals_fit(message.len(), count) {
-            return Err(Refusal::BAD_TOTALS);
+            return Err(refusal::BAD_TOTALS);
         }
         if count < k as usize {
-            return Err(Refusal::NO_SUCH_FRAME);
+            return Err(refusal::NO_SUCH_FRAME);
         }
         if k == 0 {
             return self.put_first(message.len() as u32, count as u32, out);
@@ -140,12 +140,13 @@ impl Sendable {
 pub fn send(outgoing: Outgoing, k: u32, message: &[u8], out: &mut [u8]) -> Result<usize, Refusal>
     ensures { wrote result out.new ≡ send_of outgoing k message.now out.old }
 {
-    let sendable = outgoing.checked()?;
+    outgoing.checked()?;
+    let sendable = Sendable { outgoing };
     if (outgoing.chunk as usize) < message.len() {
         return sendable.send_several(k, message, out);
     }
     if 0 < k {
-        return Err(Refusal::NO_SUCH_FRAME);
+        return Err(refusal::NO_SUCH_FRAME);
     }
     outgoing.put(frame_type::SINGLE, 0, message, out)
 }

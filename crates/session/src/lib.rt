@@ -9,7 +9,7 @@ ghost use Rattle.session.specs.Rules.{reply_version, version_fits, mtu_fits, is_
 ghost use Rattle.session.specs.Decide.{place_of, need_of, message_blocks, held_in, held_of, share_of, first_of, due_number, sized, next_for, single_of, startable, starting_of, endable, hash_of, ending_of, control_of, row_after};
 ghost use Rattle.session.specs.Rows.{message_at, no_reassembly, free_row, opened_row, acked_row, settled_row, admitted_row, fed_row, dropped_row, with_service, with_message_at, started_row, stopped_row, closed_row};
 
-use figures::refusal::Refusal;
+use figures::refusal::{self, Refusal};
 use figures::{command, frame_type, service};
 use frame::{Header, MessageId, ServiceType, SessionId};
 
@@ -299,19 +299,19 @@ pub fn barred_by(row: Row, header: Header, major: u8, mtu: u32) -> Result<(), Re
     ensures numbered { IfErr result (λ number. 13 ≤ number) }
 {
     if header.flag {
-        return Err(Refusal::ENCRYPTED);
+        return Err(refusal::ENCRYPTED);
     }
     if !version_fits(row, major, header.version) {
-        return Err(Refusal::OTHER_VERSION);
+        return Err(refusal::OTHER_VERSION);
     }
     if !mtu_fits(row, mtu, header.size) {
-        return Err(Refusal::ABOVE_MTU);
+        return Err(refusal::ABOVE_MTU);
     }
     if !service_fits(row, header) {
-        return Err(Refusal::NOT_RUNNING);
+        return Err(refusal::NOT_RUNNING);
     }
     if !command_fits(row, header) {
-        return Err(Refusal::NOT_SERVED);
+        return Err(refusal::NOT_SERVED);
     }
     Ok(())
 }
@@ -387,17 +387,17 @@ pub fn first(row: Row, others: u32, header: Header, total: u32, count: u32) -> A
     ensures { result ≡ first_of row others header total count }
 {
     if !frame::totals_fit(total as usize, count as usize) {
-        return Act::Refuse(Refusal::BAD_TOTALS);
+        return Act::Refuse(refusal::BAD_TOTALS);
     }
     if message_of(row, header).live {
-        return Act::Refuse(Refusal::ALREADY_OPEN);
+        return Act::Refuse(refusal::ALREADY_OPEN);
     }
     let after = held(row) + need_of(total);
     if usize::from(row.cap) < after {
-        return Act::Refuse(Refusal::ABOVE_CAP);
+        return Act::Refuse(refusal::ABOVE_CAP);
     }
     if 256 < others as usize + after.max(usize::from(row.guarantee)) {
-        return Act::Refuse(Refusal::NO_ROOM);
+        return Act::Refuse(refusal::NO_ROOM);
     }
     Act::Claim(total, count)
 }
@@ -434,22 +434,22 @@ pub fn next_for(message: Reassembly, room: usize, header: Header) -> Act
     ensures { result ≡ next_for message room header }
 {
     if !message.live {
-        return Act::Refuse(Refusal::NO_MESSAGE);
+        return Act::Refuse(refusal::NO_MESSAGE);
     }
     if header.message != message.id {
-        return Act::Refuse(Refusal::OTHER_MESSAGE);
+        return Act::Refuse(refusal::OTHER_MESSAGE);
     }
     if usize::from(header.info) != due_number(message) {
-        return Act::Drop(Refusal::BAD_FRAME_NUMBER);
+        return Act::Drop(refusal::BAD_FRAME_NUMBER);
     }
     if !sizes_fit(message, header.size) {
-        return Act::Drop(Refusal::BAD_FRAME_SIZE);
+        return Act::Drop(refusal::BAD_FRAME_SIZE);
     }
     if message.frames != 1 {
         return Act::Append;
     }
     if room < message.total as usize {
-        return Act::Refuse(Refusal::TOO_SMALL);
+        return Act::Refuse(refusal::TOO_SMALL);
     }
     Act::Deliver
 }
@@ -460,7 +460,7 @@ pub fn single(room: usize, header: Header) -> Act
     ensures { result ≡ single_of room header }
 {
     if room < header.size as usize {
-        Act::Refuse(Refusal::TOO_SMALL)
+        Act::Refuse(refusal::TOO_SMALL)
     } else {
         Act::Single
     }

@@ -1,8 +1,8 @@
 -- Laws that pages of docs/ name and that no proof needs since code and proofs were written in today's forms (docs/DESIGN-PASS.md): bytes turned round by
--- arithmetic, a boolean and a version's parts in a payload, the sender's First Frame, a writer's answer for C. Each says what it said. Assumes nothing.
+-- arithmetic, a boolean and a version's parts in a payload, the sender's First Frame and what 18 lets pass, a writer's answer for C. Each says what it said. Assumes nothing.
 use Prim.Native.Nat.{ℕ, ◌+◌, ◌-◌, ◌*◌, ◌/◌, ◌%◌, ◌^◌, ◌<◌, ◌≤◌}
-use mathlib.Core.Path.{◌≡◌, ap, ◌∙◌, sym}
-use mathlib.Core.Bool.{true, false}
+use mathlib.Core.Path.{◌≡◌, ap, ◌∙◌, sym, subst}
+use mathlib.Core.Bool.{Bool, true, false}
 use mathlib.Core.List.{List}
 use native.Mathlib.Omega.{arith}
 use lib.Dec.{leb}
@@ -15,6 +15,7 @@ use Rattle.numbers.specs.Numbers.{value_le, bytes_le, value_be}
 use Rattle.numbers.proofs.Choices.{split}
 use Rattle.numbers.proofs.Laws.{written_read_le, bytes_take, bytes_drop}
 use Rattle.frame.specs.Message.{totals_fit}
+use Rattle.frame.proofs.Message.{TotalsRange, totals_range}
 use Rattle.frame.specs.Write.{Wrote, wrote, put_of}
 use Rattle.payload.specs.Version.{part_value, version_from}
 use Rattle.payload.specs.Walk.{boolean_of}
@@ -84,6 +85,14 @@ pub sends-first : (o : Outgoing) (k : ℕ) (m out : List ℕ) → Ready o → fi
 unfolding send_of last_place
 sends-first o k m out r several fits z =
     ap (λ (f : Planned). put_of (bytes_of f) out) (sym (at_first o k m several z)) ∙ rw (r.version, r.service, r.chunk, several, fits, le-leb k (count_of o m) (omega arith))
+
+-- past 18 a message may be announced, and its bytes and frames have their ranges
+pub fits : (o : Outgoing) (m : List ℕ) (count : ℕ) {b : Bool} → count ≡ count_of o m → b ≡ totals_fit (length m) count → b ≡ true
+    → totals_fit (length m) (count_of o m) ≡ true
+fits o m count e f t = subst (λ (x : ℕ). totals_fit (length m) x ≡ true) e (sym f ∙ t)
+
+pub range : (o : Outgoing) (m : List ℕ) → totals_fit (length m) (count_of o m) ≡ true → TotalsRange (length m) (count_of o m)
+range o m e = totals_range (length m) (count_of o m) e
 
 -- what a writer's call leaves, from the answer that it got
 pub as_answered : (value : ℕ) (r : Result) (a : Answer ℕ ℕ) (o : List ℕ) (w : Wrote) → r ≡ written_result value a → wrote a o ≡ w

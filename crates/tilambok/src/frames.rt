@@ -8,7 +8,7 @@ ghost use Rattle.tilambok.specs.Status.{result_of, left};
 ghost use Rattle.tilambok.specs.Frames.{reading_result, ReadingFits, field_bytes, header_from, tilambok_read_frame, tilambok_write_header, tilambok_write_frame};
 
 use crate::status;
-use figures::refusal::Refusal;
+use figures::refusal;
 use frame::{Header, MessageId, Reading, ServiceType, SessionId};
 
 // How many bytes tell a frame's header and where its payload starts.
@@ -91,7 +91,7 @@ pub extern "C" fn tilambok_read_frame(bytes: &[u8], fields: &mut [u8], value: &m
         return reading_status(reading, value);
     };
     if fields.len() < FIELDS {
-        return status::refused(Refusal::TOO_SMALL);
+        return status::refused(refusal::TOO_SMALL);
     }
     // Stored behind the fields, the value would share one store with that of Short, a jump away.
     let done = status::done(extent.consumed as u32, value);

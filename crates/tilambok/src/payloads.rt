@@ -6,7 +6,7 @@ ghost use Rattle.tilambok.specs.Status.{result_of, left};
 ghost use Rattle.tilambok.specs.Payloads.{form_from, form_result, fields_from, field_bytes, no_fields, told, read_in, start, write_in, tilambok_read_rpc, tilambok_write_rpc, tilambok_rpc_form};
 
 use crate::status;
-use figures::refusal::Refusal;
+use figures::refusal;
 use frame::ServiceType;
 use rpc::{Content, Fields, Form, Header};
 
@@ -34,7 +34,7 @@ fn form_status(carried: Option<Form>, value: &mut u32) -> u32
         Some(Form::Rpc) => status::done(0, value),
         Some(Form::Bulk) => status::done(1, value),
         Some(Form::Query) => status::done(2, value),
-        None => status::refused(Refusal::BAD_SETTINGS),
+        None => status::refused(refusal::BAD_SETTINGS),
     }
 }
 
@@ -65,7 +65,7 @@ fn tell(headed: u8, begins: u8, f: Fields, fields: &mut [u8], value: &mut u32) -
     ensures { left result fields.new value.new ≡ told headed begins f fields.old value.old }
 {
     if fields.len() < FIELDS {
-        return status::refused(Refusal::TOO_SMALL);
+        return status::refused(refusal::TOO_SMALL);
     }
     let done = status::done(u32::from(begins), value);
     put_fields(headed, begins, f, fields);
@@ -124,7 +124,7 @@ pub extern "C" fn tilambok_read_rpc(
     ensures { left result fields.new value.new ≡ tilambok_read_rpc form version payload.now fields.old value.old }
 {
     let Some(known) = form_from(form) else {
-        return status::refused(Refusal::BAD_SETTINGS);
+        return status::refused(refusal::BAD_SETTINGS);
     };
     read_known(known, version, payload, fields, value)
 }
@@ -188,7 +188,7 @@ pub extern "C" fn tilambok_write_rpc(
     ensures { left result out.new value.new ≡ tilambok_write_rpc form version (fields_from kind id number size) json.now bulk.now out.old value.old }
 {
     let Some(known) = form_from(form) else {
-        return status::refused(Refusal::BAD_SETTINGS);
+        return status::refused(refusal::BAD_SETTINGS);
     };
     let header = header_from(known, kind, id, number, size);
     write_in(known, version, header, size, json, bulk, out, value)

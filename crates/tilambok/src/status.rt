@@ -27,7 +27,7 @@ pub fn short(needed: u32, value: &mut u32) -> u32
 pub fn refused(refusal: Refusal) -> u32
     ensures { result ≡ refusal }
 {
-    u32::from(refusal.number())
+    u32::from(refusal)
 }
 
 // A writer's answer, with the bytes written as its value.

@@ -85,6 +85,15 @@ unfolding numbers_from
 bad_stays line [] i n e = e
 bad_stays line (most ∷ limits) i n e = bad_stays line limits (i + 1) (with_word n i (word_at line n.end most)) (rw e)
 
+-- the last number ends where so many words do
+numbers_ends : (line limits : List ℕ) (i : ℕ) (n : NumbersRead) → (numbers_from line limits i n).end ≡ words_end line (length limits) n.end
+unfolding numbers_from words_end
+numbers_ends line [] i n = refl
+numbers_ends line (most ∷ limits) i n =
+    let e = word_end line n.end in
+    let w : Word = word_at line n.end most in
+    numbers_ends line limits (i + 1) (with_word n i w) ∙ ap (words_end line (length limits)) (read_end most e (between line n.end e))
+
 -- good numbers with a good word
 with_good : (n : NumbersRead) (i v near : ℕ) (w : Word) → n.good ≡ true → w.good ≡ true → w.value ≡ v → w.end ≡ near
     → record { good = true; values = set n.values i v; lent = v; end = near } ≡ with_word n i w
@@ -120,6 +129,17 @@ module _ (line limits values : List ℕ) (i lent end near : ℕ) (word : List �
       let bad = bad_stays line (drop (i + 1) limits) (i + 1) (with_word so_far i x) (word_bad x f) in
       let last : all.good ≡ false = ap (λ (k : NumbersRead). k.good) (sym turned) ∙ bad in
       rw last
+
+  -- behind a word that is no number the others are passed
+  pub passed_end : {e : ℕ} → e ≡ words_end line (length limits - (i + 1)) near → e ≡ all.end
+  passed_end {e} p =
+      let x : Word = read_word (get_or limits i 0) near word in
+      let rest : List ℕ = drop (i + 1) limits in
+      let n : NumbersRead = with_word so_far i x in
+      p ∙ ap (λ (k : ℕ). words_end line k near) (sym (length-drop (i + 1) limits))
+      ∙ ap (words_end line (length rest)) (sym (read_end (get_or limits i 0) near word))
+      ∙ sym (numbers_ends line rest (i + 1) n)
+      ∙ ap (λ (k : NumbersRead). k.end) turned
 
 -- `-` is an odd number of characters, so decoding it leaves the buffer
 dash_read : (content : List ℕ) → decode_of (45 ∷ []) content ≡ decoded (Err Odd) content
@@ -217,15 +237,6 @@ form_limits name =
     either P (same_bytes name (110 ∷ 101 ∷ 119 ∷ [])) _ _ (λ e. refl) λ e.
     either P (same_bytes name (99 ∷ 97 ∷ 108 ∷ 108 ∷ [])) _ _ (λ e. refl) λ e. refl
 
--- the last number ends where so many words do
-numbers_ends : (line limits : List ℕ) (i : ℕ) (n : NumbersRead) → (numbers_from line limits i n).end ≡ words_end line (length limits) n.end
-unfolding numbers_from words_end
-numbers_ends line [] i n = refl
-numbers_ends line (most ∷ limits) i n =
-    let e = word_end line n.end in
-    let w : Word = word_at line n.end most in
-    numbers_ends line limits (i + 1) (with_word n i w) ∙ ap (words_end line (length limits)) (read_end most e (between line n.end e))
-
 -- a line by its command, its limits and where its numbers end
 module _ (line content : List ℕ) (space : ℕ) where
   abbrev said_as : Kind → List ℕ → ℕ → Left
@@ -237,10 +248,9 @@ module _ (line content : List ℕ) (space : ℕ) where
   last_end limits = (numbers_from line limits 0 (no_numbers space)).end
 
   pub told : (f : Form) (k : Kind) (limits after : List ℕ) (e : ℕ) (r : Command) → f.limits ≡ limits_of f.kind → k ≡ f.kind → limits ≡ limits_of k
-      → e ≡ words_end line (length limits) space → r ≡ whole_of k (numbers_from line limits 0 (no_numbers space)) (last_of line k e content).last
+      → e ≡ last_end limits → r ≡ whole_of k (numbers_from line limits 0 (no_numbers space)) (last_of line k e content).last
       → after ≡ (last_of line k e content).content → leaving r after ≡ with_form line space f content
   told f k limits after e r a b d h p q =
       let same : limits ≡ f.limits = d ∙ ap limits_of b ∙ sym a in
-      let ends : e ≡ last_end limits = h ∙ sym (numbers_ends line limits 0 (no_numbers space)) in
       let left : leaving r after ≡ said_as k limits e = rw (p, q) in
-      left ∙ ap (said_as k limits) ends ∙ ap (λ (l : List ℕ). said_as k l (last_end l)) same ∙ ap (λ (x : Kind). said_as x f.limits (last_end f.limits)) b
+      left ∙ ap (said_as k limits) h ∙ ap (λ (l : List ℕ). said_as k l (last_end l)) same ∙ ap (λ (x : Kind). said_as x f.limits (last_end f.limits)) b

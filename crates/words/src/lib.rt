@@ -66,6 +66,13 @@ struct Numbers {
     lent: u64,
 }
 
+// The numbers of a line, where all of them can be read, and where their words end, whatever they say.
+#[derive(Clone, Copy)]
+struct NumberWords {
+    numbers: Option<Numbers>,
+    end: usize,
+}
+
 // How many bytes the last word says, or the last two together; the first of two says `first`.
 #[derive(Clone, Copy)]
 struct Last {
@@ -216,10 +223,12 @@ fn number(word: &[u8], most: u64) -> Option<u64>
         .filter(|value| *value <= most)
 }
 
-// The words behind a space as numbers, one for each limit.
-fn numbers_at(line: &[u8], space: usize, limits: &[u64]) -> Option<Numbers>
+// The words behind a space as numbers, one for each limit. Behind one that cannot be read the others are only passed, from where it ends: no word is looked
+// through for its end twice.
+fn numbers_at(line: &[u8], space: usize, limits: &[u64]) -> NumberWords
     requires { length limits.now ≤ 9 }
-    ensures { result ≡ said_numbers (numbers_from line.now limits.now 0 (no_numbers space)) }
+    ensures numbers { result.numbers ≡ said_numbers (numbers_from line.now limits.now 0 (no_numbers space)) }
+    ensures end { result.end ≡ (numbers_from line.now limits.now 0 (no_numbers space)).end }
 {
     let mut values = [0; NUMBERS];
     let mut lent = OUTLEN;
@@ -227,10 +236,19 @@ fn numbers_at(line: &[u8], space: usize, limits: &[u64]) -> Option<Numbers>
     for (i, most) in limits.iter().enumerate() {
         let start = end;
         end = word_end(line, start);
-        lent = number(between(line, start, end), *most)?;
-        values[i] = lent;
+        let Some(value) = number(between(line, start, end), *most) else {
+            return NumberWords {
+                numbers: None,
+                end: words_end(line, end, limits.len() - (i + 1)),
+            };
+        };
+        lent = value;
+        values[i] = value;
     }
-    Some(Numbers { values, lent })
+    NumberWords {
+        numbers: Some(Numbers { values, lent }),
+        end,
+    }
 }
 
 // Where so many words behind a space end, whatever they say.
@@ -304,10 +322,10 @@ pub fn command_of(line: &[u8], content: &mut [u8]) -> Command
     let space = find(line, 0, line.len(), b' ');
     let kind = Kind::named(front(line, space));
     let limits = kind.limits();
-    let numbers = numbers_at(line, space, limits);
+    let words = numbers_at(line, space, limits);
     // The last words are read behind numbers that cannot be read too: the contract says what they leave in `content`.
-    let last = last_word(line, kind, words_end(line, space, limits.len()), content);
-    whole(kind, numbers, last)
+    let last = last_word(line, kind, words.end, content);
+    whole(kind, words.numbers, last)
 }
 
 // A command with the words behind it, where all of them can be read.

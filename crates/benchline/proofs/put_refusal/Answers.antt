@@ -14,7 +14,7 @@ put_decimal-requires c = omega (arith, c.requires, c.put_byte-letter.ensures.end
 pub returns-clause-appended : goal.returns-clause-appended
 returns-clause-appended c =
     let n = c.from.result in
-    let same = ap (λ (k : ℕ). letter_r ∷ spaced (decimal_of k)) (c.from.ensures ∙ c.number.ensures) in
+    let same = ap (λ (k : ℕ). letter_r ∷ spaced (decimal_of k)) c.from.ensures in
     renamed (ap (λ (l : List ℕ). letter_r ∷ l) (spaced_some (decimal_of n) (width_some n)) ∙ same)
     (more (letter_r ∷ 32 ∷ []) (decimal_of n) (omega (arith, c.requires))
     (more (letter_r ∷ []) (32 ∷ []) (omega (arith, c.requires)) c.put_byte-letter.ensures c.put_byte-space.ensures) c.put_decimal.ensures)

@@ -23,12 +23,13 @@ returns c =
     let space : ℕ = c.find-space.result in
     let name : List ℕ = c.front.result.now in
     let limits : List ℕ = c.limits-limits.result.now in
-    let last : LastLeft = last_of line c.named-kind.result c.words_end.result content in
+    let end : ℕ = c.numbers_at-words.result.end in
+    let last : LastLeft = last_of line c.named-kind.result end content in
     let numbers : NumbersRead = numbers_from line limits 0 (no_numbers space) in
-    let whole = c.whole.ensures numbers last.last c.numbers_at-numbers.ensures c.last_word-last.ensures.said in
+    let whole = c.whole.ensures numbers last.last c.numbers_at-words.ensures.numbers c.last_word-last.ensures.said in
     let z : space ≡ name_end line = omega (arith, c.find-space.ensures.value) in
     rw (sym c.is_silent.ensures ∙ c.if-is_silent.false)
-    (told line content space (form_of name) c.named-kind.result limits c.last_word-last.new.content c.words_end.result c.whole.result (form_limits name)
-    c.named-kind.ensures c.limits-limits.ensures.limits c.words_end.ensures whole c.last_word-last.ensures.content_after
+    (told line content space (form_of name) c.named-kind.result limits c.last_word-last.new.content end c.whole.result (form_limits name)
+    c.named-kind.ensures c.limits-limits.ensures.limits c.numbers_at-words.ensures.end whole c.last_word-last.ensures.content_after
     ∙ ap (λ (n : List ℕ). with_form line space (form_of n) content) c.front.ensures
     ∙ ap (λ (s : ℕ). with_form line s (form_of (take s line)) content) z)

@@ -1,8 +1,7 @@
 -- `driver::messages::read` meets its contract, by the reader's three answers.
 -- Assumes nothing.
-use Rattle.std.proofs.Common.{ℕ, [], Ok, sym, ap, ◌∙◌}
-use Rattle.driver.specs.Spelling.{refused_text}
-use Rattle.driver.specs.Answers.{plain_line, rpc_by}
+use Rattle.std.proofs.Common.{[], Ok, sym, ap, ◌∙◌}
+use Rattle.driver.specs.Answers.{rpc_by}
 use Rattle.driver.proofs.Answers.{message_line, bare_line, rpc_read}
 use Rattle.driver.proofs.Spelling.{held, line_held}
 use Rattle.driver.proofs.messages.read.Goals as goal
@@ -21,4 +20,4 @@ pub returns-in-Err : goal.returns-in-Err
 returns-in-Err c =
     let s = c.args.input.now in
     rpc_read c.args.command s c.form_of.ensures c.byte.ensures c.read.ensures
-    (c.lay_plain.ensures ∙ line_held (held c.refused.ensures) [] ∙ ap (λ (n : ℕ). plain_line (refused_text n)) c.number.ensures ∙ ap (rpc_by s) (sym c.in-Err.is))
+    (c.lay_plain.ensures ∙ line_held (held c.refused.ensures) [] ∙ ap (rpc_by s) (sym c.in-Err.is))
