@@ -8,6 +8,11 @@ from tilambok import Link, Offer, Refused, Short, Status, read_frame
 OFFER = Offer(guarantee=32, cap=64, hash=39_027)
 
 
+def say(line: str) -> None:
+    """Prints a line in one piece: each phone has a thread of its own, and between a text and its newline another's could come."""
+    print(f"{line}\n", end="", flush=True)
+
+
 class Phone(socketserver.BaseRequestHandler):
     """One connection: frames may come in pieces; a reply goes back, a message is printed."""
 
@@ -28,16 +33,16 @@ class Phone(socketserver.BaseRequestHandler):
         try:
             answer = link.call(waiting, OFFER)
         except Refused as refusal:
-            print(f"refused with {refusal.number}", flush=True)
+            say(f"refused with {refusal.number}")
             return read_frame(waiting)[2]
         if answer.status == Status.DELIVERED:
-            print(f"service {answer.service:02x}: {len(answer.written)} bytes", flush=True)
+            say(f"service {answer.service:02x}: {len(answer.written)} bytes")
         elif answer.status != Status.SILENT:
             self.request.sendall(answer.written)
         return answer.consumed
 
 
 with socketserver.ThreadingTCPServer(("127.0.0.1", int(sys.argv[1])), Phone) as server:
-    print(f"port {server.server_address[1]}", flush=True)
+    say(f"port {server.server_address[1]}")
     for _ in range(int(sys.argv[2]) if len(sys.argv) > 2 else 2**31):
         server.handle_request()
