@@ -1,6 +1,6 @@
 -- Why a call is refused: document 01's "Answer numbers" with its words, and document 02's of request A1. The names are those of the code (src/refusal).
 -- Assumes nothing.
-use Rattle.std.specs.Prelude.{ℕ, List, [], ◌∷◌, Result, Ok, Err}
+use Rattle.std.specs.Prelude.{ℕ, List, [], ◌∷◌, Contains, Result, Ok, Err}
 
 -- "version 0 or above 5"
 abbrev pub bad_version : ℕ
@@ -138,6 +138,10 @@ rpc_bulk = 44
 -- every one, by rising number
 abbrev pub all_refusals : List ℕ
 all_refusals = bad_version ∷ bad_frame_type ∷ bad_service ∷ bad_control_info ∷ bad_flag ∷ bad_size ∷ bad_settings ∷ too_small ∷ not_open ∷ encrypted ∷ other_version ∷ above_mtu ∷ not_running ∷ not_served ∷ bad_totals ∷ already_open ∷ above_cap ∷ no_room ∷ no_message ∷ other_message ∷ bad_frame_number ∷ bad_frame_size ∷ no_such_frame ∷ bad_length ∷ bad_type ∷ malformed ∷ too_deep ∷ bad_tag ∷ rpc_too_short ∷ rpc_bad_type ∷ rpc_bad_id ∷ rpc_bad_json_size ∷ rpc_bulk ∷ []
+
+-- one of them
+abbrev pub Listed : ℕ → Type 0
+Listed n = Contains all_refusals n
 
 -- the number that a call is refused with; 0 where it is not
 abbrev pub refusal_in : {A : Type 0} → Result A ℕ → ℕ

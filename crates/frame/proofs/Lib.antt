@@ -4,3 +4,4 @@ pub mod Buffers
 pub mod Answers
 pub mod ThereAndBack
 pub mod Figures
+pub mod Listed

@@ -35,3 +35,4 @@ pub mod Wishes
 pub mod ReadBack
 pub mod Figures
 pub mod ActualCalls
+pub mod Listed

@@ -31,6 +31,10 @@ width_most k m h = pow-le-pow_right (omega arith) h
 pub fits_64 : (k r b : ℕ) → k < 8 → r < 256 ^ k → b < 256 → r * 256 + b < 2 ^ 64
 fits_64 k r b q h g = omega (arith, grown k r b h g, width_most (k + 1) 8 (omega arith))
 
+-- a width below 8 has so many numbers, and at least one; their count has room in 64 bits
+pub counted : (k : ℕ) → k < 8 → (0 < 256 ^ k) × (256 ^ k < 2 ^ 64)
+counted k h = (omega (arith, width_most 0 k (omega arith)), omega (arith, width_most k 7 (omega arith)))
+
 -- the bytes at the back that are passed make a number
 pub record Behind (bytes rest : List ℕ) (r : ℕ) : Type 0 where
   pub tail : List ℕ

@@ -1,5 +1,5 @@
 // Numbers as bytes, in both orders: most significant first (frame headers), least significant first (BSON). And copies of bytes.
-// Every public function but `copy` is total: a read counts only the bytes that are there, a write that does not fit changes nothing.
+// Every public function but `copy` and `Number::of` is total: a read counts only the bytes that are there, a write that does not fit changes nothing.
 #![tactic(auto)]
 
 ghost use Rattle.std.specs.Prelude.{◌≡◌, ℕ, ◌+◌, ◌-◌, ◌^◌, ◌%◌, ◌≤◌, ◌<◌, min, length};
@@ -20,9 +20,22 @@ pub trait Number: Copy + Drop {
     // Its bytes.
     const WIDTH: usize;
 
-    // The number that the last bytes of x make: x itself, where it has no more.
+    // The number that is x. Only numbers of its width are asked of it, so that who implements this need not say what becomes of others.
     fn of(x: u64) -> Self
-        ensures { value result ≡ x % 256 ^ WIDTH };
+        requires { x < 256 ^ WIDTH }
+        ensures { value result ≡ x };
+
+    // The number that the last bytes of any x make: x itself, where it has no more. An `impl` may leave it as it is.
+    #[tactic(auto, using(crate::proofs::Turns::counted))]
+    fn cut(x: u64) -> Self
+        ensures { value result ≡ x % 256 ^ WIDTH }
+    {
+        let width = Self::WIDTH;
+        if width < 8 {
+            return Self::of(x % 256u64.pow(width as u32));
+        }
+        Self::of(x)
+    }
 
     fn wide(self) -> u64
         ensures { result ≡ value self };
@@ -38,6 +51,10 @@ impl Number for u8 {
     const WIDTH: usize = 1;
 
     fn of(x: u64) -> u8 {
+        x as u8
+    }
+
+    fn cut(x: u64) -> u8 {
         (x % 256) as u8
     }
 
@@ -56,6 +73,10 @@ impl Number for u16 {
     const WIDTH: usize = 2;
 
     fn of(x: u64) -> u16 {
+        x as u16
+    }
+
+    fn cut(x: u64) -> u16 {
         (x % 65536) as u16
     }
 
@@ -74,6 +95,10 @@ impl Number for u32 {
     const WIDTH: usize = 4;
 
     fn of(x: u64) -> u32 {
+        x as u32
+    }
+
+    fn cut(x: u64) -> u32 {
         (x % 4294967296) as u32
     }
 
@@ -92,6 +117,10 @@ impl Number for u64 {
     const WIDTH: usize = 8;
 
     fn of(x: u64) -> u64 {
+        x
+    }
+
+    fn cut(x: u64) -> u64 {
         x
     }
 
@@ -159,7 +188,7 @@ fn read_le(s: &[u8], at: usize, w: usize) -> u64
 pub fn le<N: Number>(s: &[u8], at: usize) -> N
     ensures { N.value result ≡ value_le (part s.now at N.WIDTH) }
 {
-    N::of(read_le(s, at, N::WIDTH))
+    N::cut(read_le(s, at, N::WIDTH))
 }
 
 // Four bytes of a header. Where all are there, the compiler makes one load of the number least significant first and one instruction of its turn; most
@@ -226,5 +255,51 @@ pub fn copy(source: &[u8], target: &mut [u8])
         copy_apart(source, target);
     } else {
         target.copy_from_slice(source);
+    }
+}
+
+#[cfg(test)]
+mod tests {
+    use super::*;
+
+    // Who implements `Number` writes no more than this, and `of` for the numbers that have room alone.
+    #[derive(Clone, Copy, Drop)]
+    struct Degrees(u16);
+
+    impl Number for Degrees {
+        ghost WIDTH = { 2 };
+
+        ghost value = { λ d. d.0 };
+
+        const WIDTH: usize = 2;
+
+        fn of(x: u64) -> Degrees {
+            Degrees(x as u16)
+        }
+
+        fn wide(self) -> u64 {
+            u64::from(self.0)
+        }
+
+        ghost short = { Prim.search rules };
+    }
+
+    #[test]
+    fn numbers_that_have_room(rt: HostRuntime) {
+        assert_eq!(rt; u8::of(255), 255);
+        assert_eq!(rt; u16::of(300), 300);
+        assert_eq!(rt; u32::of(4294967295), 4294967295);
+        assert_eq!(rt; u64::of(4294967296), 4294967296);
+        assert_eq!(rt; Degrees::of(300).0, 300);
+    }
+
+    #[test]
+    fn last_bytes_of_any_number(rt: HostRuntime) {
+        assert_eq!(rt; u8::cut(256 + 7), 7);
+        assert_eq!(rt; u16::cut(65536 + 300), 300);
+        assert_eq!(rt; u32::cut(4294967296 + 1), 1);
+        assert_eq!(rt; u64::cut(18446744073709551615), 18446744073709551615);
+        assert_eq!(rt; Degrees::cut(65536 * 5 + 300).0, 300);
+        assert_eq!(rt; le::<Degrees>(&[9, 44, 1], 1).0, 300);
     }
 }

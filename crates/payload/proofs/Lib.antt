@@ -14,3 +14,4 @@ pub mod ReadBack
 mod Outcomes
 mod Tests
 mod Rest
+pub mod Listed

@@ -4,3 +4,4 @@ pub mod Buffers
 pub mod ThereAndBack
 pub mod Figures
 pub mod Through
+pub mod Listed

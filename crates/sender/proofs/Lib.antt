@@ -2,3 +2,4 @@ pub mod Counts
 pub mod Laws
 pub mod ReadBack
 pub mod Bursts
+pub mod Listed

@@ -7,3 +7,4 @@ pub mod Lists
 mod Creation
 pub mod Made
 mod Turns
+pub mod Listed
