@@ -32,6 +32,10 @@ listed_run from (suc k) n e l u =
     let p = and_both (is_listed from) (are_listed (suc from) k) e in
     same_or_not from n (λ s. subst Listed s (listed from p.0)) (λ s. listed_run (suc from) k n p.1 (omega (arith, s)) (omega (arith, u)))
 
+-- what a definition answers that says 0 for none: a number of these, or 0
+abbrev pub ListedOrNone : ℕ → Type 0
+ListedOrNone n = (n ≡ 0 → ⊥) → Listed n
+
 -- whether all of a list's numbers are from 1 to 44
 abbrev are_within : List ℕ → Bool
 are_within [] = true

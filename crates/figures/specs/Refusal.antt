@@ -137,7 +137,41 @@ rpc_bulk = 44
 
 -- every one, by rising number
 abbrev pub all_refusals : List ℕ
-all_refusals = bad_version ∷ bad_frame_type ∷ bad_service ∷ bad_control_info ∷ bad_flag ∷ bad_size ∷ bad_settings ∷ too_small ∷ not_open ∷ encrypted ∷ other_version ∷ above_mtu ∷ not_running ∷ not_served ∷ bad_totals ∷ already_open ∷ above_cap ∷ no_room ∷ no_message ∷ other_message ∷ bad_frame_number ∷ bad_frame_size ∷ no_such_frame ∷ bad_length ∷ bad_type ∷ malformed ∷ too_deep ∷ bad_tag ∷ rpc_too_short ∷ rpc_bad_type ∷ rpc_bad_id ∷ rpc_bad_json_size ∷ rpc_bulk ∷ []
+all_refusals =
+    bad_version
+    ∷ bad_frame_type
+    ∷ bad_service
+    ∷ bad_control_info
+    ∷ bad_flag
+    ∷ bad_size
+    ∷ bad_settings
+    ∷ too_small
+    ∷ not_open
+    ∷ encrypted
+    ∷ other_version
+    ∷ above_mtu
+    ∷ not_running
+    ∷ not_served
+    ∷ bad_totals
+    ∷ already_open
+    ∷ above_cap
+    ∷ no_room
+    ∷ no_message
+    ∷ other_message
+    ∷ bad_frame_number
+    ∷ bad_frame_size
+    ∷ no_such_frame
+    ∷ bad_length
+    ∷ bad_type
+    ∷ malformed
+    ∷ too_deep
+    ∷ bad_tag
+    ∷ rpc_too_short
+    ∷ rpc_bad_type
+    ∷ rpc_bad_id
+    ∷ rpc_bad_json_size
+    ∷ rpc_bulk
+    ∷ []
 
 -- one of them
 abbrev pub Listed : ℕ → Type 0

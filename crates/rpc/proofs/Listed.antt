@@ -8,7 +8,7 @@ use lib.ListN.{length}
 use borrow.Author.Tests.{eqb-false}
 use Rattle.std.specs.Prelude.{Err}
 use Rattle.figures.specs.Refusal.{Listed}
-use Rattle.figures.proofs.Listed.{listed}
+use Rattle.figures.proofs.Listed.{listed, ListedOrNone}
 use Rattle.numbers.proofs.Choices.{either, unless_elim}
 use Rattle.frame.specs.Rules.{known_version}
 use Rattle.frame.proofs.Listed.{ListedIn, put_listed}
@@ -33,20 +33,16 @@ reason_listed (after j l a b c r) = listed 44 refl
 pub read_listed : (form : Form) (version : ℕ) (s : List ℕ) (n : ℕ) → read_of form version s ≡ Err n → Listed n
 read_listed form version s n e = reason_listed (refusals.why form version s n e)
 
--- a fault, unless there is none
-abbrev Faulty : ℕ → Type 0
-Faulty n = (n ≡ 0 → ⊥) → Listed n
-
-size_listed : (form : Form) (fits ends : Bool) → Faulty (size_fault form fits ends)
+size_listed : (form : Form) (fits ends : Bool) → ListedOrNone (size_fault form fits ends)
 size_listed form fits ends =
-    unless_elim Faulty fits 43 _ (λ t z. listed 43 refl) λ t.
-    unless_elim Faulty (may_end form ends) 44 0 (λ t z. listed 44 refl) (λ t z. absurd (z refl))
+    unless_elim ListedOrNone fits 43 _ (λ t z. listed 43 refl) λ t.
+    unless_elim ListedOrNone (may_end form ends) 44 0 (λ t z. listed 44 refl) (λ t z. absurd (z refl))
 
-fault_listed : (form : Form) (f : Fields) (fits ends : Bool) → Faulty (fault_of form f fits ends)
+fault_listed : (form : Form) (f : Fields) (fits ends : Bool) → ListedOrNone (fault_of form f fits ends)
 unfolding fault_of
 fault_listed form f fits ends =
-    unless_elim Faulty (kind_fits form f.kind) 41 _ (λ t z. listed 41 refl) λ t.
-    unless_elim Faulty (id_fits form f.id) 42 _ (λ t z. listed 42 refl) (λ t. size_listed form fits ends)
+    unless_elim ListedOrNone (kind_fits form f.kind) 41 _ (λ t z. listed 41 refl) λ t.
+    unless_elim ListedOrNone (id_fits form f.id) 42 _ (λ t z. listed 42 refl) (λ t. size_listed form fits ends)
 
 pub write_listed : (version : ℕ) (h : Header) (size : ℕ) (json bulk out : List ℕ) → ListedIn (write_of version h size json bulk out)
 unfolding write_of whole_of bare_of

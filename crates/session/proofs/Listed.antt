@@ -5,7 +5,7 @@ use mathlib.Core.Bool.{false, ◌&&◌, ◌||◌, not}
 use native.Mathlib.Omega.{arith}
 use lib.Dec.{eqb, leb}
 use Rattle.figures.specs.Refusal.{Listed}
-use Rattle.figures.proofs.Listed.{listed}
+use Rattle.figures.proofs.Listed.{listed, ListedOrNone}
 use Rattle.numbers.proofs.Choices.{either, unless_elim}
 use Rattle.frame.specs.declared.Header.{Header}
 use Rattle.frame.specs.Message.{totals_fit}
@@ -18,21 +18,17 @@ use Rattle.session.specs.Rows.{message_at}
 use Rattle.session.specs.Rules.{version_fits, mtu_fits, service_fits, command_fits, barred_by}
 use Rattle.session.specs.Decide.{place_of, need_of, held_of, first_of, due_number, sized, next_for, single_of, startable, starting_of, endable, is_hash, hash_of, ending_of, control_of, content_of}
 
--- a number that is no 0
-abbrev Faulty : ℕ → Type 0
-Faulty n = (n ≡ 0 → ⊥) → Listed n
-
-faulty : (major mtu : ℕ) (r : Row) (h : Header) → Faulty (barred_by major mtu r h)
+bars_listed : (major mtu : ℕ) (r : Row) (h : Header) → ListedOrNone (barred_by major mtu r h)
 unfolding barred_by
-faulty major mtu r h =
-    unless_elim Faulty (not h.flag) 13 _ (λ _ _. listed 13 refl) λ _.
-    unless_elim Faulty (version_fits major r h.version) 14 _ (λ _ _. listed 14 refl) λ _.
-    unless_elim Faulty (mtu_fits mtu r h.size) 15 _ (λ _ _. listed 15 refl) λ _.
-    unless_elim Faulty (service_fits r h) 16 _ (λ _ _. listed 16 refl) λ _.
-    unless_elim Faulty (command_fits r h) 17 0 (λ _ _. listed 17 refl) (λ _ z. absurd (z refl))
+bars_listed major mtu r h =
+    unless_elim ListedOrNone (not h.flag) 13 _ (λ _ _. listed 13 refl) λ _.
+    unless_elim ListedOrNone (version_fits major r h.version) 14 _ (λ _ _. listed 14 refl) λ _.
+    unless_elim ListedOrNone (mtu_fits mtu r h.size) 15 _ (λ _ _. listed 15 refl) λ _.
+    unless_elim ListedOrNone (service_fits r h) 16 _ (λ _ _. listed 16 refl) λ _.
+    unless_elim ListedOrNone (command_fits r h) 17 0 (λ _ _. listed 17 refl) (λ _ z. absurd (z refl))
 
 pub barred_listed : (major mtu : ℕ) (r : Row) (h : Header) {n : ℕ} → n ≡ barred_by major mtu r h → 1 ≤ n → Listed n
-barred_listed major mtu r h {n} e l = subst Listed (sym e) (faulty major mtu r h (λ z. let none : n ≡ 0 = e ∙ z in omega arith))
+barred_listed major mtu r h {n} e l = subst Listed (sym e) (bars_listed major mtu r h (λ z. let none : n ≡ 0 = e ∙ z in omega arith))
 
 -- a decision: where it refuses, the number is one of those
 abbrev pub ListedAct : Act → Type 0
